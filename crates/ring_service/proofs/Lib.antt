@@ -1,6 +1,8 @@
+pub mod Begun
 pub mod Commands
 pub mod Contents
 pub mod Keys
+pub mod Leaders
 pub mod Next
 pub mod Restarted
 pub mod Resting

@@ -36,7 +36,7 @@ use Rattle.ring_service.proofs.Stops.{none_flies}
 
 -- ---- what is left begins with what is known to be durable
 
-begins_fly : (past : List Input) (known : Durable) (base : Option Summary) (inputs : List Input) (keep : Bool)
+pub begins_fly : (past : List Input) (known : Durable) (base : Option Summary) (inputs : List Input) (keep : Bool)
     → IsPrefix (past ++ known.inputs) (left_by keep (shifted past (with_flying known inputs base))).inputs
 begins_fly past known base inputs false =
     let s : NodeState = with_flying known inputs base in
@@ -48,7 +48,7 @@ begins_fly past known base inputs true =
     let is : flown_in (shifted past s) ≡ past ++ all = flown-shifted past s ∙ ap (λ (l : List Input). past ++ l) (take_all (length all) all (omega arith)) in
     (inputs, append_assoc past known.inputs inputs ∙ sym is)
 
-begins_rest : (past : List Input) (known : Durable) (keep : Bool) → IsPrefix (past ++ known.inputs) (left_by keep (shifted past (at_rest known))).inputs
+pub begins_rest : (past : List Input) (known : Durable) (keep : Bool) → IsPrefix (past ++ known.inputs) (left_by keep (shifted past (at_rest known))).inputs
 begins_rest past known keep =
     subst (λ (s : NodeState). IsPrefix (past ++ known.inputs) (left_by keep (shifted past s)).inputs) (sym (none_flies known)) (begins_fly past known None [] keep)
 

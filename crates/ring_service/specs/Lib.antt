@@ -1,5 +1,7 @@
+pub mod Begun
 pub mod Entry
 pub mod Flushers
+pub mod Leaders
 pub mod Props
 pub mod Restarts
 pub mod Rounds

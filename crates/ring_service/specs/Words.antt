@@ -1,9 +1,13 @@
 -- The words of ringd.
-use Rattle.std.specs.Prelude.{ℕ, Bool, true, false, ◌≡◌, ◌≤◌, List, [], ◌∷◌, Option, Some, None, IsSomeAnd, pos, unwrap_or, codes}
+use Rattle.std.specs.Prelude.{ℕ, Bool, true, false, ◌≡◌, ◌≤◌, List, [], ◌∷◌, Option, Some, None, Ok, IsSomeAnd, pos, unwrap_or, codes}
 use Rattle.std.specs.Net.Grammar.{IsIpv4Text}
 use Rattle.std.specs.Str.Parse.{IsNumeral, digits_value, without_leading_plus}
 use Rattle.std.specs.declared.net.ipv4_addr.Ipv4Addr.{Ipv4Addr}
 use Rattle.ring_records.specs.declared.limits.TheConstants.{DOORS}
+use Rattle.hex.specs.Hex.{decode_of}
+use Rattle.folder_plan.specs.declared.identity.Identity.{Identity}
+use Rattle.log_lines.specs.declared.form.LogForm.{LogForm}
+use Rattle.log_lines.specs.Forms.{form_name}
 use Rattle.clap.specs.Words.{App, HasMatchesOf, Rule, first_value, found_of, new_app, new_rule, one_text, with_rule}
 use Rattle.clap.specs.declared.builder.action.ArgAction.TheVariants.{SetTrue}
 use Rattle.clap.specs.declared.builder.value_parser.ValueParser.TheVariants as parser
@@ -38,6 +42,14 @@ make_rule = record (flag_rule (codes "make")) { is_free = false }
 abbrev pub check_rule : Rule
 check_rule = record (flag_rule (codes "check")) { is_free = false }
 
+-- `--ring ID`
+abbrev pub ring_rule : Rule
+ring_rule = record (new_rule (codes "ring")) { long = Some (codes "ring"); value_names = 1 }
+
+-- `--log FORM`, which is `plain` where it is not given
+abbrev pub log_rule : Rule
+log_rule = record (new_rule (codes "log")) { long = Some (codes "log"); value_names = 1; defaults = codes "plain" ∷ [] }
+
 -- the same with a version, so that `--version` and `-V` are words too
 abbrev pub with_version : App → App
 with_version app = record app { top = record app.top { has_version = true } }
@@ -48,7 +60,8 @@ ringd_app =
     let served = with_rule (with_rule (with_version (new_app (codes "ringd"))) settings_rule) (number_rule (codes "serve") 1 1000) in
     let flags = with_rule (with_rule (with_rule served always_rule) (flag_rule (codes "existing"))) (flag_rule (codes "fail-stop")) in
     let numbers = with_rule (with_rule (with_rule (with_rule flags make_rule) check_rule) (number_rule (codes "doors") 1 DOORS)) (number_rule (codes "idle") 0 86400) in
-    with_rule (with_rule (with_rule (with_rule numbers (number_rule (codes "status") 1 65535)) (number_rule (codes "watchers") 0 64)) listen_rule) (number_rule (codes "leap") 0 999999999)
+    let ports = with_rule (with_rule (with_rule (with_rule numbers (number_rule (codes "status") 1 65535)) (number_rule (codes "watchers") 0 64)) listen_rule) (number_rule (codes "leap") 0 999999999) in
+    with_rule (with_rule (with_rule ports ring_rule) log_rule) (flag_rule (codes "leaders"))
 
 abbrev pub IsIn : ℕ → ℕ → ℕ → Type 0
 IsIn low high n = (low ≤ n) × (n ≤ high)
@@ -75,6 +88,15 @@ Flag text flag = (text ≡ None → flag ≡ false) × ((text ≡ Some (codes "f
 abbrev pub IsAddress : List ℕ → Ipv4Addr → Type 0
 IsAddress text address = IsIpv4Text text address
 
+-- the identity whose digits the text is; none where there is no text, and there alone
+abbrev pub IsRing : Option (List ℕ) → Option Identity → Type 0
+IsRing None ring = ring ≡ None
+IsRing (Some text) ring = IsSomeAnd ring (λ id. decode_of text ≡ Ok id.bits)
+
+-- the text names this form
+abbrev pub IsForm : List ℕ → LogForm → Type 0
+IsForm text form = text ≡ form_name form
+
 -- what clap matches to the words
 pub record AreTold (words : List (List ℕ)) (told : Words) : Type 0 where
   pub matches : ArgMatches
@@ -92,3 +114,6 @@ pub record AreTold (words : List (List ℕ)) (told : Words) : Type 0 where
   pub waits : IsSaid 0 64 16 (one_text (found_of matches) (codes "watchers")) told.watchers
   pub listens_at : IsAddress (unwrap_or (first_value (found_of matches) (codes "listen")) (codes "127.0.0.1")) told.listen
   pub leaps : IsSaid 0 999999999 1000000 (one_text (found_of matches) (codes "leap")) told.leap
+  pub is_of : IsRing (first_value (found_of matches) (codes "ring")) told.ring
+  pub tells_as : IsForm (unwrap_or (first_value (found_of matches) (codes "log")) (codes "plain")) told.log
+  pub leads : Flag (one_text (found_of matches) (codes "leaders")) told.leaders

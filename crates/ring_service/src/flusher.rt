@@ -9,7 +9,7 @@ ghost use Rattle.gated_journal.specs.Reading.{Reading, device_size};
 ghost use Rattle.gated_journal.specs.Unread.{IsFault};
 ghost use Rattle.gated_journal.specs.Works.{reading_after};
 ghost use Rattle.decision_board.specs.Boards.{published, pending, refusals, in_rounds, LackedMemory};
-ghost use Rattle.commit_hub.specs.Holders.{known_by};
+ghost use Rattle.commit_hub.specs.Holders.{begun_by, known_by};
 ghost use Rattle.commit_hub.specs.Told.{IsBrought};
 ghost use Rattle.commit_hub.specs.Works.{flown_by, summary_by, IsNext};
 ghost use Rattle.node_core.specs.Core.{IsNodeOf};
@@ -17,15 +17,14 @@ ghost use Rattle.ring_service.specs.Rounds.{IsRound, IsStopped, IsIdle, IsSpent,
 ghost use Rattle.ring_service.specs.Props.{HasKnown-prop};
 
 use crate::gate::Gate;
-use commit_hub::{Hub, Node, Tie, Work};
+use commit_hub::{Begun, Hub, Node, Tie, Work};
 use decision_board::{Board, Naming, Owed};
-use disk_model::Device;
+use disk_model::{Device, SystemFault};
 use gated_journal::Journal;
 use group_commit::Landed;
 use ring_records::Refusal;
 use std::alloc::Global;
 use std::collections::VecDeque;
-use std::io::ErrorKind;
 use std::sync::Wait;
 
 /// The journal and the tie of a hub's node, the board that is told its notices, and those that the board could not take
@@ -70,8 +69,8 @@ impl<V: Device, J: Naming, A: Node> Flusher<V, J, A> {
         }
     }
 
-    /// What was answered to the first call of its journal's device that failed, where that is known.
-    pub fn cause(&self) -> Option<ErrorKind> {
+    /// What the system answered to the first call of its journal's device that failed, where that is known.
+    pub fn cause(&self) -> Option<SystemFault> {
         self.journal.cause()
     }
 
@@ -152,6 +151,21 @@ impl<V: Device, J: Naming, A: Node> Flusher<V, J, A> {
                 }
             }
         }
+    }
+
+    /// Changes nothing, and nothing runs: what it knows to be durable begins with the inputs of the token, on which a reply or
+    /// a window of its hub rests.
+    pub fn covers(&mut self, begun: &mut Begun<A>)
+        ensures begins { IsPrefix (begun_by begun.old) (known_to self.old).inputs }
+        ensures known { known_to self.new ≡ known_to self.old }
+        ensures begun { begun_by begun.new ≡ begun_by begun.old }
+        ensures journal { journal_of self.new ≡ journal_of self.old }
+        ensures board { board_of self.new ≡ board_of self.old }
+        ensures owed { owed_of self.new ≡ owed_of self.old }
+        ensures is_published { is_published self.new ≡ is_published self.old }
+        ensures has_ended { has_ended self.new ≡ has_ended self.old }
+    {
+        self.tie.covers(begun);
     }
 
     /// Has the hub of its tie let go of the inputs that the area of the journal in use stands for.

@@ -1,27 +1,36 @@
-//! Laws of what a stop leaves of a flusher's rounds, and of what a board shows after a restart: public functions with an
-//! empty body, whose contracts say what follows from the definitions alone. No program calls them.
-ghost use Rattle.std.specs.Prelude.{◌≡◌, ◌≤◌, ◌++◌, ◌∷◌, [], ℕ, Bool, List, Option, Some, take};
+//! Laws of what a stop leaves of a flusher's rounds, of the leaders that running hubs name, and of what a board shows after
+//! a restart: public functions with an empty body, whose contracts say what follows from the definitions alone. No program
+//! calls them.
+ghost use Rattle.std.specs.Prelude.{◌≡◌, ◌≢◌, ◌≤◌, ◌++◌, ◌∷◌, [], ℕ, Bool, List, Option, Some, IsTrue, length, take};
 ghost use Rattle.std.specs.List.{Contains};
+ghost use mathlib.Core.List.{IsPrefix};
 ghost use Rattle.disk_model.specs.Disk.{LeavesOnly};
 ghost use Rattle.ring_records.specs.declared.candidate.Candidate.{Candidate};
 ghost use Rattle.ring_records.specs.declared.decision.Decision.{Decision};
 ghost use Rattle.ring_records.specs.declared.input.Input.{Input};
+ghost use Rattle.ring_records.specs.declared.input.Input.TheVariants.{Stand};
 ghost use Rattle.ring_records.specs.declared.key.Key.{Key};
 ghost use Rattle.ring_records.specs.declared.notice.Notice.{Notice};
+ghost use Rattle.ring_records.specs.declared.packet.Packet.{Packet};
 ghost use Rattle.ring_records.specs.Admission.{IsAllowed};
+ghost use Rattle.ring_records.specs.Answer.{Answered, Answers, PacketRests};
 ghost use Rattle.ring_records.specs.History.{floor};
 ghost use Rattle.ring_records.specs.Leader.{IsLatest, leader};
 ghost use Rattle.ring_records.specs.Lists.{EachAfter};
 ghost use Rattle.ring_records.specs.Notices.{floor_in, leader_in, leads_in, IsNotBelow};
+ghost use Rattle.ring_records.specs.Order.{is_less};
 ghost use Rattle.ring_records.specs.States.{NodeState, IsLawfulState, left_by};
 ghost use Rattle.gated_journal.specs.Areas.{AllReadAs};
 ghost use Rattle.gated_journal.specs.Reading.{Reading};
 ghost use Rattle.group_commit.specs.declared.landed.Landed.{Landed};
 ghost use Rattle.group_commit.specs.Content.{IsContent};
-ghost use Rattle.group_commit.specs.Desk.{DeskKept};
+ghost use Rattle.group_commit.specs.Desk.{DeskKept, IsAnswer};
 ghost use Rattle.group_commit.specs.Past.{IsPast, shifted};
 ghost use Rattle.node_store.specs.State.{Holds, IsOpenedAs};
 ghost use Rattle.commit_hub.specs.Tied.{Durable, durable_part};
+ghost use Rattle.commit_hub.specs.Told.{IsBroughtBehind, IsWindowBehind};
+ghost use Rattle.ring_service.specs.Begun.{Begins, BeginsBehind};
+ghost use Rattle.ring_service.specs.Leaders.{Life, AreFromReleased, AreLives, IsEarlier, IsNamed, IsReleasedBy, history_of};
 ghost use Rattle.ring_service.specs.Restarts.{AreLater, UnlessRetired};
 ghost use Rattle.ring_service.specs.Rounds.{IsRound, IsStopped, at_rest, known_behind};
 ghost use Rattle.ring_service.specs.Series.{Round, AreRounds, IsCut, IsHeld, IsLeftBehind, IsRoundOf, IsSplit, RestsOn, device_behind, inputs_of, known_since};
@@ -75,6 +84,53 @@ pub fn released_by_a_flusher<V: Device, A: Node>()
         → AreRounds V.disk V.clock V.left_since A.member A.opening device known (before ++ round ∷ later)
         → IsCut V.disk V.clock V.left_since A.member A.opening (device_behind device (before ++ round ∷ later)) new (known_since known (before ++ round ∷ later))
         → LeavesOnly V.clock V.left_since (device_behind device (before ++ round ∷ later)) new (RestsOn A.member A.opening (known_since known before) round) }
+{}
+
+/// What a token of a hub speaks of stays: these inputs, with which what the flusher knows behind some rounds begins, are how
+/// all begins that a stop leaves behind these rounds, whenever it comes: between rounds, within one, or within one that did
+/// not end. A token that begins what is known later began it as soon as so many inputs were known: the flusher need not be
+/// asked between. So a reply that rests on them is one that the history gives which the next start holds, and each packet of
+/// a window rests on that.
+pub fn told_by_a_flusher<V: Device, A: Node>()
+    ensures rounds { (device : V) (known : Durable) (before later : List (Round V)) (begun : List Input) → IsHeld A.member A.opening (V.disk device) known
+        → AreRounds V.disk V.clock V.left_since A.member A.opening device known (before ++ later) → IsPrefix begun (known_since known before).inputs
+        → LeavesOnly V.clock V.left_since (device_behind device before) (device_behind device (before ++ later)) (Begins A.member A.opening begun) }
+    ensures cut { (old new : V) (known : Durable) (begun : List Input) → IsPrefix begun known.inputs
+        → IsCut V.disk V.clock V.left_since A.member A.opening old new known → LeavesOnly V.clock V.left_since old new (Begins A.member A.opening begun) }
+    ensures sooner { (known : Durable) (before later : List (Round V)) (begun : List Input) → IsPrefix begun (known_since known (before ++ later)).inputs
+        → length begun ≤ length (known_since known before).inputs → IsPrefix begun (known_since known before).inputs }
+    ensures reply { (past begun : List Input) (image : List ℕ) (keep : Bool) (given : Answered) (left : BeginsBehind A.member past begun image) (answer : IsAnswer A.member past begun given)
+        → Answers A.member.node A.member.n A.member.capacity answer.base (left_by keep left.state).inputs given.question given.answer }
+    ensures window { (past begun : List Input) (image : List ℕ) (keep : Bool) (list : List Packet) (packet : Packet) (left : BeginsBehind A.member past begun image)
+        → IsWindowBehind A.member past begun list → Contains list packet → PacketRests A.member.node (left_by keep left.state).inputs packet }
+{}
+
+/// What a node released in one of its lives rests on a beginning of its durable inputs: each packet of a window whose token
+/// its flusher covers, and each that a round let it release. It does so at each later moment of that life, since a flusher
+/// comes to know more inputs and forgets none, and in each later life, since what a stop leaves begins with all of them.
+pub fn released_by_a_life()
+    ensures window { (life : Life) (begun : List Input) (list : List Packet) (packet : Packet) → IsPrefix begun life.known.inputs
+        → IsWindowBehind life.member life.past begun list → Contains list packet → IsReleasedBy life packet }
+    ensures round { (life : Life) (since inputs : List Input) (landed : Landed) (packet : Packet) → IsPrefix (since ++ inputs) life.known.inputs
+        → IsBroughtBehind life.member life.past since inputs landed → Contains landed.packets.items packet → IsReleasedBy life packet }
+    ensures earlier { (was life : Life) (packet : Packet) → IsEarlier was life → IsReleasedBy was packet → IsReleasedBy life packet }
+    ensures goes_on { (life : Life) (known : Durable) → IsPrefix life.known.inputs known.inputs → IsEarlier life (record life { known = known }) }
+    ensures again { (life : Life) (image : List ℕ) (run : ℕ) (keep : Bool) (desk : DeskKept) (left : BeginsBehind life.member life.past life.known.inputs image)
+        → IsOpenedAs life.member run (left_by keep left.state) desk
+        → IsEarlier life (record { member = life.member; opening = desk.opening; past = take (left_by keep left.state).base.inputs (left_by keep left.state).inputs; known = durable_part desk }) }
+{}
+
+/// All leaders that the nodes of a ring of running hubs named for a key, in replies of `Hub::redeem_wait` whose tokens their
+/// flushers cover, in these lives or in earlier ones, are one candidate. It stands in its node's durable inputs, and every
+/// other candidate that stands for the key in some node's is less. Of the links this is asked: each message that a node took
+/// came in a packet that the node before had released.
+pub fn one_leader()
+    ensures same { (n : ℕ) (lives : ℕ → Life) (key : Key) (c d : Candidate) → AreLives n lives → AreFromReleased n lives
+        → IsNamed n lives key c → IsNamed n lives key d → c ≡ d }
+    ensures stands { (n : ℕ) (lives : ℕ → Life) (key : Key) (c : Candidate) → AreLives n lives → AreFromReleased n lives
+        → IsNamed n lives key c → Contains (history_of (lives c.node)) (Stand key c.bid) }
+    ensures greatest { (n : ℕ) (lives : ℕ → Life) (key : Key) (c d : Candidate) → AreLives n lives → AreFromReleased n lives
+        → IsNamed n lives key c → 1 ≤ d.node → d.node ≤ n → Contains (history_of (lives d.node)) (Stand key d.bid) → d ≢ c → IsTrue (is_less d c) }
 {}
 
 /// A board is made of what a desk tells: the leaders that its node knows by its history, in order of key, and its floors, in

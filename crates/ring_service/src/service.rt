@@ -2,7 +2,7 @@
 ghost use Rattle.std.specs.Prelude.{◌≡◌, false, Some, None, is_some, IfErr, IfOk, IfSome};
 ghost use Rattle.ring_records.specs.Message.{is_outside};
 
-use commit_hub::{Hub, Node, Share};
+use commit_hub::{Begun, Hub, Node, Share};
 use decision_board::{BoardReader, Naming};
 use group_commit::Stub;
 use ring_records::{Bid, GroupName, Key, Refusal, Reply, Request, Term};
@@ -18,11 +18,11 @@ pub struct HubService<'a, R, J: Naming, A: Node> {
     hub: &'a Hub<A>,
     share: Share<A>,
     reader: BoardReader<J>,
-    last: Option<Stub>,
+    last: Option<(Stub, Begun<A>)>,
 }
 
 impl<'a, R, J: Naming, A: Node> HubService<'a, R, J, A> {
-    ghost use Rattle.ring_service.specs.Services.{share_of, reader_of, last_of};
+    ghost use Rattle.ring_service.specs.Services.{share_of, reader_of, last_of, begun_of, stub_in, begun_in};
 
     /// A service that has released nothing yet.
     pub fn new(
@@ -34,6 +34,7 @@ impl<'a, R, J: Naming, A: Node> HubService<'a, R, J, A> {
         ensures share { share_of result ≡ share }
         ensures reader { reader_of result ≡ reader }
         ensures last { last_of result ≡ None }
+        ensures begun { begun_of result ≡ None }
     {
         HubService {
             rt,
@@ -49,14 +50,18 @@ impl<'a, R, J: Naming, A: Node> HubService<'a, R, J, A> {
         ensures some { is_some result ≡ is_some (last_of self.now) }
         ensures stub { IfSome result (λ stub. last_of self.now ≡ Some stub.now) }
     {
-        self.last.as_ref()
+        match &self.last {
+            Some((stub, _)) => Some(stub),
+            None => None,
+        }
     }
 
-    /// Ends it.
-    pub fn into_parts(self) -> (Share<A>, BoardReader<J>, Option<Stub>)
+    /// Ends it. The last stub comes with the token of what its reply rests on.
+    pub fn into_parts(self) -> (Share<A>, BoardReader<J>, Option<(Stub, Begun<A>)>)
         ensures share { result.0 ≡ share_of self.entry }
         ensures reader { result.1 ≡ reader_of self.entry }
-        ensures last { result.2 ≡ last_of self.entry }
+        ensures last { stub_in result.2 ≡ last_of self.entry }
+        ensures begun { begun_in result.2 ≡ begun_of self.entry }
     {
         let HubService {
             share,
@@ -80,8 +85,8 @@ impl<'a, R: Wait, J: Naming, A: Node> HubService<'a, R, J, A> {
         match self.hub.submit(self.rt, &mut self.share, question) {
             Err(refusal) => Err(refusal),
             Ok(ticket) => match self.hub.redeem_wait(self.rt, ticket) {
-                Ok((reply, stub)) => {
-                    self.last = Some(stub);
+                Ok((reply, stub, begun)) => {
+                    self.last = Some((stub, begun));
                     Ok(reply)
                 }
                 Err((ticket, refusal)) => {

@@ -165,7 +165,7 @@ fn is_path(bytes: &[u8]) -> bool
     1 <= bytes.len() && bytes.len() <= 200 && all_printed(bytes)
 }
 
-fn all_printed(bytes: &[u8]) -> bool
+pub(crate) fn all_printed(bytes: &[u8]) -> bool
     ensures { result ≡ list_all is_printed bytes.now }
 {
     bytes.iter().all(|byte| is_printed(*byte))
@@ -197,7 +197,7 @@ fn knows_each(table: &Table) -> bool
     table.keys().all(|key| is_setting(key.as_str()))
 }
 
-fn is_setting(word: &str) -> bool
+pub(crate) fn is_setting(word: &str) -> bool
     ensures { result ≡ is_setting word.now }
 {
     word == "nodes" || word == "dir" || word == "port" || word == "capacity"

@@ -1,12 +1,14 @@
 //! The words of `ringd`.
-ghost use Rattle.std.specs.Prelude.{◌≡◌, ◌<◌, ◌≤◌, ◌||◌, false, nat_lt, is_none, Option, Some, None, IfOk, IfSome, map, codes, unwrap_or};
+ghost use Rattle.std.specs.Prelude.{◌≡◌, ◌<◌, ◌≤◌, ◌||◌, true, false, nat_lt, is_none, Option, Some, None, IfOk, IfSome, map, codes, unwrap_or};
 ghost use Rattle.ring_records.specs.declared.limits.TheConstants.{DOORS};
 ghost use Rattle.clap.specs.Words.{app_of, first_value, found_of, one_text, rule_of, with_rule};
-ghost use Rattle.ring_service.specs.Words.{AreTold, Flag, IsAddress, IsIn, IsMatched, IsSaid};
-ghost use Rattle.ring_service.specs.Words.{always_rule, check_rule, flag_rule, listen_rule, make_rule, number_rule, ringd_app, settings_rule};
+ghost use Rattle.ring_service.specs.Words.{AreTold, Flag, IsAddress, IsForm, IsIn, IsMatched, IsRing, IsSaid};
+ghost use Rattle.ring_service.specs.Words.{always_rule, check_rule, flag_rule, listen_rule, log_rule, make_rule, number_rule, ring_rule, ringd_app, settings_rule};
 
 use clap::error::ErrorKind;
 use clap::{Arg, ArgAction, ArgMatches, Command, Error, value_parser};
+use folder_plan::Identity;
+use log_lines::LogForm;
 use ring_records::DOORS;
 use std::alloc::{AllocError, Global};
 use std::net::Ipv4Addr;
@@ -46,10 +48,17 @@ pub struct Words<'a> {
     pub listen: Ipv4Addr,
     /// How far above the latest known term of its group a client may stand, up to 999,999,999; 0 is for no bound.
     pub leap: u32,
+    /// The identity that the ring of the folder has to have.
+    pub ring: Option<Identity>,
+    /// What stands before each line on standard error.
+    pub log: LogForm,
+    /// Whether a look at the nodes tells the leaders that each one knows. No words say this without `check`.
+    pub leaders: bool,
 }
 
 /// Reads words, of which the first is the program's name: `[--settings PATH] [--serve K | --always | --make
-/// | --check] [--existing] [--fail-stop] [--doors S] [--idle SECONDS] [--status PORT] [--watchers W] [--listen ADDRESS] [--leap N]`.
+/// | --check [--leaders]] [--existing] [--fail-stop] [--doors S] [--idle SECONDS] [--status PORT] [--watchers W]
+/// [--listen ADDRESS] [--leap N] [--ring ID] [--log FORM]`.
 /// Refused with what is to be printed, and the status.
 pub fn read_words<'a>(alloc: Global, words: &'a [&'a str]) -> Result<Words<'a>, Error>
     ensures told { IfOk result (λ w. AreTold (map (λ word. word.now) words.now) w) }
@@ -63,15 +72,39 @@ pub fn read_words<'a>(alloc: Global, words: &'a [&'a str]) -> Result<Words<'a>, 
     let matches = command.try_get_matches_from_mut(words)?;
     match words_of(&matches) {
         Ok(told) => Ok(told),
-        Err(kind) => Err(command.error(kind, objection(kind))?),
+        Err(objection) => Err(command.error(objection.kind(), objection.text())?),
     }
 }
 
-/// What is told of words that `clap` takes, and that are refused so.
-fn objection(kind: ErrorKind) -> &'static str {
-    match kind {
-        ErrorKind::InvalidValue => "--listen takes an IPv4 address, as 127.0.0.1",
-        _ => "--doors takes 1 to 31 beside --status",
+/// Why words are refused that `clap` takes.
+#[derive(Clone, Copy)]
+enum Objection {
+    Number,
+    Doors,
+    Listen,
+    Ring,
+    Log,
+    Leaders,
+}
+
+impl Objection {
+    fn kind(self) -> ErrorKind {
+        match self {
+            Objection::Number | Objection::Doors => ErrorKind::ValueValidation,
+            Objection::Listen | Objection::Ring | Objection::Log => ErrorKind::InvalidValue,
+            Objection::Leaders => ErrorKind::MissingRequiredArgument,
+        }
+    }
+
+    fn text(self) -> &'static str {
+        match self {
+            Objection::Number => "a number is out of its range",
+            Objection::Doors => "--doors takes 1 to 31 beside --status",
+            Objection::Listen => "--listen takes an IPv4 address, as 127.0.0.1",
+            Objection::Ring => "--ring takes the 32 hexadecimal digits of a ring.id",
+            Objection::Log => "--log takes plain, journal or time",
+            Objection::Leaders => "--leaders stands beside --check alone",
+        }
     }
 }
 
@@ -210,8 +243,8 @@ fn status_arg<'a>(alloc: Global) -> Arg<'a>
         .value_name("PORT")
         .help_heading("Status")
         .help(
-            "Tells of the ring by HTTP at this port, 1 to 65535: /live, /health, /status, /metrics, /leaders; with 31 \
-             doors at most",
+            "Tells of the ring by HTTP at this port, 1 to 65535: /, /live, /ready, /health, /status, /metrics, /leaders; \
+             with 31 doors at most",
         )
         .value_parser(value_parser!(u32).range(1..=65_535))
 }
@@ -260,6 +293,46 @@ fn leap_arg<'a>(alloc: Global) -> Arg<'a>
         .value_parser(value_parser!(u32).range(0..=999_999_999))
 }
 
+/// `--ring ID`
+fn ring_arg<'a>(alloc: Global) -> Arg<'a>
+    ensures rule { rule_of result ≡ ring_rule }
+    ensures local { result.global ≡ false }
+{
+    Arg::new(alloc, "ring")
+        .long("ring")
+        .value_name("ID")
+        .help_heading("Ring")
+        .help("Refuses a folder whose ring.id tells not this identity, or that has none")
+}
+
+/// `--log FORM`
+fn log_arg<'a>(alloc: Global) -> Arg<'a>
+    ensures rule { rule_of result ≡ log_rule }
+    ensures local { result.global ≡ false }
+{
+    Arg::new(alloc, "log")
+        .long("log")
+        .value_name("FORM")
+        .help_heading("Status")
+        .help(
+            "Puts before each line on standard error nothing where FORM is plain, its level as systemd reads it where it \
+             is journal, or the time and the level where it is time; the last two tell more",
+        )
+        .default_value("plain")
+}
+
+/// `--leaders`
+fn leaders_arg<'a>(alloc: Global) -> Arg<'a>
+    ensures rule { rule_of result ≡ flag_rule (codes "leaders") }
+    ensures local { result.global ≡ false }
+{
+    Arg::new(alloc, "leaders")
+        .long("leaders")
+        .help_heading("Ring")
+        .help("Tells with --check the latest leader of each group by each node")
+        .action(ArgAction::SetTrue)
+}
+
 /// The command with one more argument.
 fn with_arg<'a>(command: Command<'a>, arg: Arg<'a>) -> Result<Command<'a>, AllocError>
     requires { arg.global ≡ false }
@@ -287,7 +360,10 @@ fn command<'a>(alloc: Global) -> Result<Command<'a>, AllocError>
     let command = with_arg(command, status_arg(alloc))?;
     let command = with_arg(command, watchers_arg(alloc))?;
     let command = with_arg(command, listen_arg(alloc))?;
-    with_arg(command, leap_arg(alloc))
+    let command = with_arg(command, leap_arg(alloc))?;
+    let command = with_arg(command, ring_arg(alloc))?;
+    let command = with_arg(command, log_arg(alloc))?;
+    with_arg(command, leaders_arg(alloc))
 }
 
 /// The number that is matched to a word. Refused where what is matched is no number in this range, which the word's
@@ -297,18 +373,18 @@ fn number(
     word: &str,
     low: u32,
     high: u32,
-) -> Result<Option<u32>, ErrorKind>
+) -> Result<Option<u32>, Objection>
     ensures { IfOk result (IsMatched low high (one_text (found_of matches.now) word.now)) }
 {
     match matches.try_get_one::<u32>(word) {
         Ok(None) => Ok(None),
         Ok(Some(number)) if low <= number && number <= high => Ok(Some(number)),
-        _ => Err(ErrorKind::ValueValidation),
+        _ => Err(Objection::Number),
     }
 }
 
 /// The port that is matched to `--status`.
-fn port(matches: &ArgMatches<'_>) -> Result<Option<u16>, ErrorKind>
+fn port(matches: &ArgMatches<'_>) -> Result<Option<u16>, Objection>
     ensures matched { IfOk result (IsMatched 1 65535 (one_text (found_of matches.now) (codes "status"))) }
     ensures range { IfOk result (λ port. IfSome port (IsIn 1 65535)) }
 {
@@ -319,7 +395,7 @@ fn port(matches: &ArgMatches<'_>) -> Result<Option<u16>, ErrorKind>
 }
 
 /// The address that is matched to `--listen`.
-fn address(matches: &ArgMatches<'_>) -> Result<Ipv4Addr, ErrorKind>
+fn address(matches: &ArgMatches<'_>) -> Result<Ipv4Addr, Objection>
     ensures { IfOk result (IsAddress (unwrap_or (first_value (found_of matches.now) (codes "listen")) (codes "127.0.0.1"))) }
 {
     let text = match matches.get_str("listen") {
@@ -328,7 +404,34 @@ fn address(matches: &ArgMatches<'_>) -> Result<Ipv4Addr, ErrorKind>
     };
     match text.parse::<Ipv4Addr>() {
         Ok(address) => Ok(address),
-        Err(_) => Err(ErrorKind::InvalidValue),
+        Err(_) => Err(Objection::Listen),
+    }
+}
+
+/// The identity that is matched to `--ring`.
+fn ring(matches: &ArgMatches<'_>) -> Result<Option<Identity>, Objection>
+    ensures { IfOk result (IsRing (first_value (found_of matches.now) (codes "ring"))) }
+{
+    let Some(digits) = matches.get_str("ring") else {
+        return Ok(None);
+    };
+    match Identity::read(digits) {
+        Some(identity) => Ok(Some(identity)),
+        None => Err(Objection::Ring),
+    }
+}
+
+/// The form that is matched to `--log`.
+fn form(matches: &ArgMatches<'_>) -> Result<LogForm, Objection>
+    ensures { IfOk result (IsForm (unwrap_or (first_value (found_of matches.now) (codes "log")) (codes "plain"))) }
+{
+    let text = match matches.get_str("log") {
+        Some(text) => text,
+        None => "plain",
+    };
+    match LogForm::read(text) {
+        Some(form) => Ok(form),
+        None => Err(Objection::Log),
     }
 }
 
@@ -340,7 +443,7 @@ fn have_place(doors: u32, status: Option<u16>) -> bool
 }
 
 /// What is matched.
-fn words_of<'a>(matches: &ArgMatches<'a>) -> Result<Words<'a>, ErrorKind>
+fn words_of<'a>(matches: &ArgMatches<'a>) -> Result<Words<'a>, Objection>
     ensures settings { IfOk result (λ w. w.settings.now ≡ unwrap_or (first_value (found_of matches.now) (codes "settings")) (codes "-")) }
     ensures serve { IfOk result (λ w. IsMatched 1 1000 (one_text (found_of matches.now) (codes "serve")) w.serve) }
     ensures always { IfOk result (λ w. Flag (one_text (found_of matches.now) (codes "always")) w.always) }
@@ -359,6 +462,10 @@ fn words_of<'a>(matches: &ArgMatches<'a>) -> Result<Words<'a>, ErrorKind>
     ensures listen { IfOk result (λ w. IsAddress (unwrap_or (first_value (found_of matches.now) (codes "listen")) (codes "127.0.0.1")) w.listen) }
     ensures far { IfOk result (λ w. IsSaid 0 999999999 1000000 (one_text (found_of matches.now) (codes "leap")) w.leap) }
     ensures leap { IfOk result (λ w. IsIn 0 999999999 w.leap) }
+    ensures ring { IfOk result (λ w. IsRing (first_value (found_of matches.now) (codes "ring")) w.ring) }
+    ensures log { IfOk result (λ w. IsForm (unwrap_or (first_value (found_of matches.now) (codes "log")) (codes "plain")) w.log) }
+    ensures leaders { IfOk result (λ w. Flag (one_text (found_of matches.now) (codes "leaders")) w.leaders) }
+    ensures beside { IfOk result (λ w. w.leaders ≡ true → w.check ≡ true) }
 {
     let settings = match matches.get_str("settings") {
         Some(path) => path,
@@ -371,16 +478,23 @@ fn words_of<'a>(matches: &ArgMatches<'a>) -> Result<Words<'a>, ErrorKind>
     let watchers = number(matches, "watchers", 0, 64)?;
     let doors = doors.unwrap_or(1);
     if !have_place(doors, status) {
-        return Err(ErrorKind::ValueValidation);
+        return Err(Objection::Doors);
     }
     let listen = address(matches)?;
     let leap = number(matches, "leap", 0, 999_999_999)?;
+    let ring = ring(matches)?;
+    let log = form(matches)?;
+    let check = matches.get_flag("check");
+    let leaders = matches.get_flag("leaders");
+    if leaders && !check {
+        return Err(Objection::Leaders);
+    }
     Ok(Words {
         settings,
         serve,
         always: matches.get_flag("always"),
         make: matches.get_flag("make"),
-        check: matches.get_flag("check"),
+        check,
         existing: matches.get_flag("existing"),
         fail_stop: matches.get_flag("fail-stop"),
         doors,
@@ -389,5 +503,8 @@ fn words_of<'a>(matches: &ArgMatches<'a>) -> Result<Words<'a>, ErrorKind>
         watchers: watchers.unwrap_or(16),
         listen,
         leap: leap.unwrap_or(1_000_000),
+        ring,
+        log,
+        leaders,
     })
 }

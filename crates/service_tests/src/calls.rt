@@ -102,7 +102,7 @@ pub fn released<A: Node, R: Wait + Abort>(
     ticket: Ticket,
 ) -> Result<Stub, Refusal> {
     match hub.redeem_wait(rt, ticket) {
-        Ok((reply, stub)) => {
+        Ok((reply, stub, _begun)) => {
             assert!(rt; stub.reply() == reply);
             Ok(stub)
         }

@@ -148,36 +148,39 @@ impl<J: Naming, A: Node> Client<J, A> {
         let same = reply(rt, Say::Refused(Cause::Retired(5)));
         let below = reply(rt, Say::Refused(Cause::Retired(5)));
         let floor = key(rt, name, 5).term;
-        let Client {
-            share,
-            reader,
-            last,
-        } = self;
-        drop(last);
-        let mut service = HubService::new(rt, hub, share, reader);
+        let mut service = self.serves(rt, hub);
         assert!(rt; service.retire(&group(rt, name), floor) == Ok(reply(rt, Say::Retired)));
         assert!(rt; service.retire(&group(rt, name), floor) == Ok(same));
         assert!(rt; service.stand(key(rt, name, 4), bid(rt, 10)) == Ok(below));
-        let (share, reader, last) = service.into_parts();
-        Client {
-            share,
-            reader,
-            last,
-        }
+        Client::served(service)
     }
 
     /// By a service it stands twice with bid 10, reads, and retires.
     fn stands_twice<R: Wait + Abort>(self, rt: &R, hub: &Hub<A>, name: &str) -> Client<J, A> {
+        let mut service = self.serves(rt, hub);
+        asks_twice(rt, &mut service, name);
+        assert!(rt; is_of(service.last(), reply(rt, EARLY)));
+        Client::served(service)
+    }
+
+    /// A service in its place, which has released nothing yet.
+    fn serves<'a, R: Wait>(self, rt: &'a R, hub: &'a Hub<A>) -> HubService<'a, R, J, A> {
         let Client {
             share,
             reader,
             last,
         } = self;
         drop(last);
-        let mut service = HubService::new(rt, hub, share, reader);
-        asks_twice(rt, &mut service, name);
+        HubService::new(rt, hub, share, reader)
+    }
+
+    /// The client that such a service served.
+    fn served<R>(service: HubService<'_, R, J, A>) -> Client<J, A> {
         let (share, reader, last) = service.into_parts();
-        assert!(rt; is_of(last.as_ref(), reply(rt, EARLY)));
+        let last = match last {
+            Some((stub, _begun)) => Some(stub),
+            None => None,
+        };
         Client {
             share,
             reader,

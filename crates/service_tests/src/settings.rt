@@ -1,4 +1,6 @@
 // Settings and words, well told and badly.
+use folder_plan::Identity;
+use log_lines::LogForm;
 use ring_service::{Setting, Settings, StartFault, Words, read_settings, read_words};
 use std::alloc::{AllocGlobal, Global};
 use std::net::Ipv4Addr;
@@ -109,10 +111,13 @@ const ALONE: Words<'static> = Words {
     watchers: 16,
     listen: Ipv4Addr::LOCALHOST,
     leap: 1_000_000,
+    ring: None,
+    log: LogForm::Plain,
+    leaders: false,
 };
 
 /// Words that are taken, and what they ask.
-static TAKEN: [(&[&str], Words<'static>); 9] = [
+static TAKEN: [(&[&str], Words<'static>); 11] = [
     (&["ringd"], ALONE),
     (
         &["ringd", "--serve", "7", "--settings=x"],
@@ -179,10 +184,29 @@ static TAKEN: [(&[&str], Words<'static>); 9] = [
         },
     ),
     (&["ringd", "--leap=0"], Words { leap: 0, ..ALONE }),
+    (
+        &["ringd", "--check", "--leaders", "--log=time"],
+        Words {
+            check: true,
+            leaders: true,
+            log: LogForm::Time,
+            ..ALONE
+        },
+    ),
+    (
+        &["ringd", "--log", "journal"],
+        Words {
+            log: LogForm::Journal,
+            ..ALONE
+        },
+    ),
 ];
 
+/// An identity, in its digits.
+const ID: &str = "00112233445566778899aabbccddeeff";
+
 /// Words that are wrong.
-static WRONG: [&[&str]; 28] = [
+static WRONG: [&[&str]; 32] = [
     &["ringd", "--serve=0"],
     &["ringd", "--serve=1001"],
     &["ringd", "--serve=5000"],
@@ -211,6 +235,10 @@ static WRONG: [&[&str]; 28] = [
     &["ringd", "--listen", "localhost"],
     &["ringd", "--listen=10.0.0.256"],
     &["ringd", "--listen=::1"],
+    &["ringd", "--leaders"],
+    &["ringd", "--log=none"],
+    &["ringd", "--ring=00112233445566778899aabbccddeef"],
+    &["ringd", "--ring", "g0112233445566778899aabbccddeeff"],
 ];
 
 /// The words are refused with this status, and a text for standard error or for standard output.
@@ -232,6 +260,10 @@ fn words(rt: HostRuntime) {
     }
     for words in &WRONG {
         refuses(&rt, words, 2, true);
+    }
+    match read_words(rt.alloc(), &["ringd", "--ring", ID]) {
+        Ok(read) => assert!(rt; read.ring.is_some() && read.ring == Identity::read(ID)),
+        Err(_) => panic!(rt; "refused"),
     }
     for asks in ["--help", "--version"] {
         refuses(&rt, &["ringd", asks], 0, false);

@@ -1,9 +1,8 @@
 // A sync of a device, and a round of a flusher, that last until a test has done something else.
 ghost use Rattle.std.specs.Prelude.{◌≡◌};
 
-use disk_model::{Device, DeviceFault};
+use disk_model::{Device, DeviceFault, SystemFault};
 use ring_service::Gate;
-use std::io::ErrorKind;
 use std::sync::atomic::{AtomicBool, Ordering};
 use std::time::{Clock, Duration};
 
@@ -86,7 +85,7 @@ impl<R: Clock, D: Device> Device for SlowDevice<'_, R, D> {
         self.inner.failures()
     }
 
-    fn cause(&self) -> Option<ErrorKind> {
+    fn cause(&self) -> Option<SystemFault> {
         self.inner.cause()
     }
 

@@ -115,7 +115,7 @@ fn flushes<V: Device, J: Naming, A: Node, R: Wait + Clock + Abort>(
 
 /// How many packets the hub's window has.
 fn window<A: Node, R: Wait + Abort>(rt: &R, hub: &Hub<A>) -> usize {
-    let packets = hub.window(rt).expect(rt, "ample memory");
+    let (packets, _begun) = hub.window(rt).expect(rt, "ample memory");
     let count = packets.len();
     drop(packets);
     count

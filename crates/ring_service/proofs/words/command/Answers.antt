@@ -2,7 +2,7 @@ use Rattle.std.proofs.Common.{◌∙◌, ap, refl, codes}
 use Rattle.ring_records.specs.declared.limits.TheConstants.{DOORS}
 use Rattle.clap.specs.Simple.{app_of_fields}
 use Rattle.clap.specs.Words.{app_of, new_app, rule_of}
-use Rattle.ring_service.specs.Words.{always_rule, check_rule, flag_rule, listen_rule, make_rule, number_rule, settings_rule, with_version}
+use Rattle.ring_service.specs.Words.{always_rule, check_rule, flag_rule, listen_rule, log_rule, make_rule, number_rule, ring_rule, settings_rule, with_version}
 use Rattle.ring_service.proofs.Commands.{adds, adds_last}
 use Rattle.ring_service.proofs.words.command.Goals as goal
 
@@ -21,4 +21,7 @@ returns c =
     let ten = adds _ (app_of c.in_ok-command-9.command) _ (rule_of c.status_arg.result) (number_rule (codes "status") 1 65535) c.in_ok-command-10.ensures nine c.status_arg.ensures.rule in
     let eleven = adds _ (app_of c.in_ok-command-10.command) _ (rule_of c.watchers_arg.result) (number_rule (codes "watchers") 0 64) c.in_ok-command-11.ensures ten c.watchers_arg.ensures.rule in
     let twelve = adds _ (app_of c.in_ok-command-11.command) _ (rule_of c.listen_arg.result) listen_rule c.in_ok-command-12.ensures eleven c.listen_arg.ensures.rule in
-    adds_last c.in_ok-command-12.command _ c.leap_arg.result (number_rule (codes "leap") 0 999999999) c.with_arg-13.result c.with_arg-13.ensures twelve c.leap_arg.ensures.rule refl
+    let thirteen = adds _ (app_of c.in_ok-command-12.command) _ (rule_of c.leap_arg.result) (number_rule (codes "leap") 0 999999999) c.in_ok-command-13.ensures twelve c.leap_arg.ensures.rule in
+    let fourteen = adds _ (app_of c.in_ok-command-13.command) _ (rule_of c.ring_arg.result) ring_rule c.in_ok-command-14.ensures thirteen c.ring_arg.ensures.rule in
+    let fifteen = adds _ (app_of c.in_ok-command-14.command) _ (rule_of c.log_arg.result) log_rule c.in_ok-command-15.ensures fourteen c.log_arg.ensures.rule in
+    adds_last c.in_ok-command-15.command _ c.leaders_arg.result (flag_rule (codes "leaders")) c.with_arg-16.result c.with_arg-16.ensures fifteen c.leaders_arg.ensures.rule refl

@@ -20,4 +20,7 @@ returns-in-Ok-clause-told c = record {
   waits = rw c.in-Ok.is at c.words_of.ensures.watchers;
   listens_at = rw c.in-Ok.is at c.words_of.ensures.listen;
   leaps = rw c.in-Ok.is at c.words_of.ensures.far;
+  is_of = rw c.in-Ok.is at c.words_of.ensures.ring;
+  tells_as = rw c.in-Ok.is at c.words_of.ensures.log;
+  leads = rw c.in-Ok.is at c.words_of.ensures.leaders;
 }
