@@ -13,6 +13,7 @@ use Rattle.ring_records.specs.declared.shown.Shown.{Shown}
 use Rattle.ring_world.specs.Committed.{committed}
 use Rattle.ring_world.specs.Events.{state_after}
 use Rattle.ring_world.specs.Dropped.{withheld}
+use Rattle.ring_world.specs.Start.{all_fresh}
 use Rattle.ring_world.specs.State.{State, opened}
 use Rattle.ring_world.specs.Step.{Told, Steps, refusal_of, no_node}
 use Rattle.ring_world.specs.declared.event.Event.{Event}
@@ -102,7 +103,7 @@ lines_told (StopCheckpoint node call tear) o = reopened_lines node o
 -- ---- what a world shows of a node
 
 abbrev pub shown_at : State → ℕ → Shown
-shown_at w node = shown_in node (state_after w.ring.size w.ring.capacity w.ring.events node)
+shown_at w node = shown_in node (state_after all_fresh w.ring.size w.ring.capacity w.ring.events node)
 
 -- why it shows none
 abbrev pub unshown : State → ℕ → Option Refusal
@@ -112,7 +113,7 @@ unshown w node = or_else (where_so w.ring.failed Failed) (no_node w node)
 
 -- all inputs that became durable
 abbrev pub placed_of : State → ℕ
-placed_of w = length (committed w.ring.size w.ring.capacity w.ring.events)
+placed_of w = length (committed all_fresh w.ring.size w.ring.capacity w.ring.events)
 
 -- ---- the lines of a script
 

@@ -95,15 +95,15 @@ all_within (x ∷ xs) (y ∷ ys) there = let rest = all_within xs ys (λ k z e. 
 front : {A : Type 0} (k : ℕ) (l : List A) (x : A) → Contains (take k l) x → Contains l x
 front k l x there = subst (λ ys. Contains ys x) (take-append-drop k l) (Contains-append_left (take k l) (drop k l) x there)
 
-module _ (n capacity : ℕ) (events : List (ℕ × Action)) (schedule : IsSchedule n capacity events) (i : ℕ) (first : 1 ≤ i) (last : i ≤ n) where
+module _ (start : ℕ → Base) (n capacity : ℕ) (events : List (ℕ × Action)) (schedule : IsSchedule start n capacity events) (i : ℕ) (first : 1 ≤ i) (last : i ≤ n) where
   abbrev run : List (ℕ × Input)
-  run = committed n capacity events
+  run = committed start n capacity events
 
   abbrev at : ℕ → NodeState
-  at k = state_after n capacity events k
+  at k = state_after start n capacity events k
 
   durable_is : (k : ℕ) → part run k ≡ durable_in (at k)
-  durable_is = (schedule_holds n capacity events schedule).parts
+  durable_is = (schedule_holds start n capacity events schedule).parts
 
   -- what was carried was sent
   carried_one : (place : ℕ) (msg : Msg) → IsCarried n run (after n i) (Take place msg) → slice_get (sent i (part run i)) place ≡ Some msg
@@ -114,7 +114,7 @@ module _ (n capacity : ℕ) (events : List (ℕ × Action)) (schedule : IsSchedu
   taken_sent : (place : ℕ) (msg : Msg) → slice_get (taken (part run (after n i))) place ≡ Some msg → slice_get (sent i (part run i)) place ≡ Some msg
   taken_sent place msg e =
       let b = after n i in
-      let holds = schedule_holds n capacity events schedule in
+      let holds = schedule_holds start n capacity events schedule in
       let base = launched_base (at b) in
       let lawful = lawful-first b n capacity base (at b).durable (at b).inputs (holds.sound b).lawful.all in
       let there = are_numbered b n capacity base (durable_in (at b)) lawful place msg (ap (λ (h : List Input). slice_get (taken h) place) (sym (durable_is b)) ∙ e) in
@@ -138,7 +138,7 @@ module _ (n capacity : ℕ) (events : List (ℕ × Action)) (schedule : IsSchedu
   -- the link from node i fits
   pub link_fits : LinkFits (λ place. Unit {0}) i (durable_in (at i)) (durable_in (at (after n i)))
   link_fits =
-      let holds = schedule_holds n capacity events schedule in
+      let holds = schedule_holds start n capacity events schedule in
       let own = durable_is i in
       let next = durable_is (after n i) in
       let few = credited_taken (durable_in (at i)) (λ x there. holds.carried i x (front (at i).durable (at i).inputs x there)) in
@@ -154,7 +154,7 @@ module _ (n capacity : ℕ) (events : List (ℕ × Action)) (schedule : IsSchedu
   -- no more messages of node i are credited to it than its durable inputs sent
   pub credited : credit (at i).inputs ≤ length (sent i (durable_in (at i)))
   credited =
-      let holds = schedule_holds n capacity events schedule in
+      let holds = schedule_holds start n capacity events schedule in
       let all = taken_few in
       let same = ap (λ l. length (sent i l)) (durable_is i) in
       elim (credit_from (at i).inputs) [

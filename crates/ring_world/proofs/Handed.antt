@@ -18,6 +18,7 @@ use Rattle.ring_records.specs.States.{durable_in}
 use Rattle.ring_records.proofs.Keys.{is_key-true, is_key-same}
 use Rattle.ring_world.specs.Events.{Sent, Rests, Action, Release, Process, process, IsDelivered, IsReleasable, IsSchedule}
 use Rattle.ring_world.specs.Ring.{RingView, node_at, handed, is_sent, message, is_earned, is_released}
+use Rattle.ring_world.specs.Start.{all_fresh}
 use Rattle.ring_world.proofs.Moves.{Stays, release_one, release_none}
 
 is_candidate-true : (a b : Candidate) → is_candidate a b ≡ true → a ≡ b
@@ -70,11 +71,11 @@ handed_delivers n i events (ask.Retire group floor) = tt
 handed_delivers n i events (ask.Who key) = tt
 handed_delivers n i events (ask.Latest group) = tt
 
-module _ (w : RingView) (schedule : IsSchedule w.size w.capacity w.events) where
+module _ (w : RingView) (schedule : IsSchedule all_fresh w.size w.capacity w.events) where
   -- the packets that node b may release
   module _ (b : ℕ) (low : 1 ≤ b) (high : b ≤ w.size) where
     abbrev p : Process
-    p = process w.size w.capacity w.events b
+    p = process all_fresh w.size w.capacity w.events b
 
     packet_releasable : (packet : Packet) → PacketRests b (take p.state.durable p.state.inputs) packet → IsReleasable b w.size w.capacity p (Sent packet)
     unfolding IsReleasable Rests

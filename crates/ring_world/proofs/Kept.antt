@@ -13,6 +13,7 @@ use Rattle.ring_world.specs.Counts.{IsBounded}
 use Rattle.ring_world.specs.Events.{IsSchedule}
 use Rattle.ring_world.specs.Rest.{IsAllDurable}
 use Rattle.ring_world.specs.Ring.{RingView, IsSameRing, node_at, is_launched, carried, round, brought, crashed, stopped, swept}
+use Rattle.ring_world.specs.Start.{all_fresh}
 use Rattle.ring_world.specs.State.{State, IsLeft, IsWorld, opened}
 use Rattle.ring_world.specs.declared.outcome.Outcome.{Outcome}
 use Rattle.ring_world.specs.Step.{Told, Steps, told, all_told, refusal_of, is_lasting, stepped, submitted, flushed, put, delivered_all}
@@ -20,6 +21,7 @@ use Rattle.ring_world.specs.Step as step
 use Rattle.ring_world.specs.declared.event.Event.{Event}
 use Rattle.ring_world.specs.declared.event.Event.TheVariants.{Submit, Flush, Deliver, DeliverAll, Credit, Crash, Stop, Checkpoint, StopCheckpoint}
 use Rattle.ring_world.proofs.Counts.{bounded_brought, bounded_round, bounded_crashed, bounded_stopped, bounded_swept, bounded_told, bounded_new, few_lost}
+use Rattle.ring_world.proofs.Processes.{fresh-formatted}
 use Rattle.ring_world.proofs.Rest.{durable_brought, durable_round, durable_crashed, durable_stopped, durable_swept, durable_told, durable_new, same_brought, same_round, same_swept}
 
 pub record Keeps (s : State) (r : Told × State) : Type 0 where
@@ -131,7 +133,7 @@ unfolding Steps
 all_told_is s t event o steps = ap (λ (r : Told × State). r.1.ring.events) steps.1 ∙ sym (ap (λ (r : Told × State). r.1.ring.told) steps.1)
 
 -- after an event
-pub stepped_world : (s t : State) (event : Event) (o : Told) → IsWorld s → s.ring.failed ≡ false → Steps s event o t → IsSchedule t.ring.size t.ring.capacity t.ring.told → IsWorld t
+pub stepped_world : (s t : State) (event : Event) (o : Told) → IsWorld s → s.ring.failed ≡ false → Steps s event o t → IsSchedule all_fresh t.ring.size t.ring.capacity t.ring.told → IsWorld t
 stepped_world s t event o world works steps lawful =
     let kept = step_keeps s t event o world works steps in
     let least = world.least in
@@ -161,19 +163,19 @@ left_world s t false world left =
       least = omega (arith, least, size);
       most = omega (arith, most, size);
       told = left.told;
-      lawful = subst (λ (r : RingView). IsSchedule r.size r.capacity r.told) (λ k. record s.ring { size = sym same.0 k; capacity = sym same.1 k; told = sym same.3 k }) world.lawful;
+      lawful = subst (λ (r : RingView). IsSchedule all_fresh r.size r.capacity r.told) (λ k. record s.ring { size = sym same.0 k; capacity = sym same.1 k; told = sym same.3 k }) world.lawful;
       counted = λ works. absurd (fails left.failed works);
       rest = λ eager works. absurd (fails left.failed works);
     }
 
 -- one in which nothing happened
 pub new_world : (size : ℕ) (eager : Bool) (capacity : ℕ) → 2 ≤ size → size ≤ 16 → IsWorld (opened size eager capacity)
-unfolding IsSchedule EachAfter
+unfolding EachAfter
 new_world size eager capacity least most = record {
   least = least;
   most = most;
   told = refl;
-  lawful = tt;
+  lawful = record { formatted = fresh-formatted; each = tt };
   counted = λ works. bounded_new size eager capacity;
   rest = λ is_eager works. durable_new size eager capacity;
 }
@@ -202,7 +204,7 @@ left_moved s t false why world left = record {
 }
 
 pub moved : (s t : State) (event : Event) (answer : Result Outcome Refusal) → IsWorld s → s.ring.failed ≡ false
-    → IfOk answer (λ o. Steps s event (told o) t) → OnOk answer (IsSchedule t.ring.size t.ring.capacity t.ring.told)
+    → IfOk answer (λ o. Steps s event (told o) t) → OnOk answer (IsSchedule all_fresh t.ring.size t.ring.capacity t.ring.told)
     → IfErr answer (λ why. (why ≡ OutOfMemory) ⊎ ((refusal_of s event ≡ Some why) × (t ≡ s)))
     → IfErr answer (λ why. why ≡ OutOfMemory → (refusal_of s event ≡ None) × IsLeft (is_lasting s event) s t)
     → Moved s t answer

@@ -23,7 +23,7 @@ by_is : (events : List (ℕ × Action)) (e : ℕ × Action) (x : Announced) → 
 unfolding named announced_by
 by_is events (node, Submit question) x p q = none≢some _ q
 by_is events (node, Launch) x p q = none≢some _ q
-by_is events (node, LaunchAll) x p q = none≢some _ q
+by_is events (node, LaunchAll layout) x p q = none≢some _ q
 by_is events (node, Land) x p q = none≢some _ q
 by_is events (node, Release (Replied a)) x p q = record { node = node; thing = Replied a; released = p; names = with_is node (named_by a.question a.answer.reply) x q }
 by_is events (node, Release (Sent packet)) x p q = none≢some _ q

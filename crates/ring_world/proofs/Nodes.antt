@@ -17,6 +17,7 @@ use Rattle.ring_node.proofs.Flights.{durable_state}
 use Rattle.ring_world.specs.Events.{Replied, Action, Submit, Land, Crash, Process, started, act, process, IsDelivered, IsReleasable, May, MayHappen}
 use Rattle.ring_world.specs.Ring.{is_launched, launch, release_of}
 use Rattle.ring_world.specs.Shows.{ShowsNode, Shows, without_due}
+use Rattle.ring_world.specs.Start.{all_fresh}
 use Rattle.ring_world.proofs.Moves.{Grows, Stays, grows_one, grows_two, act_launch, may_launch, process_landed, process_left, release_all}
 use Rattle.ring_world.proofs.Schedules.{process-same}
 use Rattle.ring_world.proofs.Tickets.{from_filter}
@@ -32,7 +33,7 @@ idle_left true s v = refl
 idle_left false s v = refl
 
 -- a node that the events do not change
-pub still : (n capacity : ℕ) (events more : List (ℕ × Action)) (k : ℕ) (v : NodeView) → process n capacity (events ++ more) k ≡ process n capacity events k → ShowsNode n capacity events k v
+pub still : (n capacity : ℕ) (events more : List (ℕ × Action)) (k : ℕ) (v : NodeView) → process all_fresh n capacity (events ++ more) k ≡ process all_fresh n capacity events k → ShowsNode n capacity events k v
     → ShowsNode n capacity (events ++ more) k v
 still n capacity events more k v same shows = record {
   is = shows.is;
@@ -56,7 +57,7 @@ module _ (n capacity : ℕ) (events : List (ℕ × Action)) (nodes : List NodeVi
     v = get_or nodes (i - 1) (new_node i n capacity)
 
     abbrev p : Process
-    p = process n capacity events i
+    p = process all_fresh n capacity events i
 
     pub mine : ShowsNode n capacity events i (get_or nodes (i - 1) (new_node i n capacity))
     mine = subst (λ k. ShowsNode n capacity events k v) (let e : i - 1 + 1 ≡ i = omega arith in e) (shows.node (i - 1) (new_node i n capacity) (omega arith))
@@ -86,7 +87,7 @@ module _ (n capacity : ℕ) (events : List (ℕ × Action)) (nodes : List NodeVi
     asked_here : (serial : Option ℕ) (q : Request) → ShowsNode n capacity (events ++ submission q) i (asked_with serial q v)
     unfolding asked_with act
     asked_here serial q =
-        let same = process-same n capacity events i (Submit q) in
+        let same = process-same all_fresh n capacity events i (Submit q) in
         record {
           is = mine.is;
           state = (λ t. asked (mine.is t) (mine.state t) q) ∙ ap (λ (r : Process). r.state) (sym same);
@@ -109,7 +110,7 @@ module _ (n capacity : ℕ) (events : List (ℕ × Action)) (nodes : List NodeVi
     abbrev flight_events : Flight → Action → List (ℕ × Action)
     flight_events flight end = (i, launch flight) ∷ (i, end) ∷ []
 
-    may_begin : (flight : Flight) → MayHappen n capacity events (i, launch flight)
+    may_begin : (flight : Flight) → MayHappen all_fresh n capacity events (i, launch flight)
     may_begin flight = record { first = first; last = last; may = may_launch flight n capacity events i p (ap is_idle (sym mine.state) ∙ ap (λ b. b && true) (eq-eqb v.durable v.durable refl)) }
 
     may_land : (flight : Flight) → is_launched flight p.state ≡ true → is_idle (launched_as flight i p.state) ≡ false
@@ -165,7 +166,7 @@ module _ (n capacity : ℕ) (events : List (ℕ × Action)) (nodes : List NodeVi
 
     -- ---- node i loses its memory
 
-    opened_again : (more : List (ℕ × Action)) (keeps_flying : Bool) (s : NodeState) → process n capacity (events ++ more) i ≡ started (left_by keeps_flying s)
+    opened_again : (more : List (ℕ × Action)) (keeps_flying : Bool) (s : NodeState) → process all_fresh n capacity (events ++ more) i ≡ started (left_by keeps_flying s)
         → ShowsNode n capacity (events ++ more) i (reopened (left_by keeps_flying s) v)
     unfolding reopened
     opened_again more keeps_flying s same = record {
@@ -183,7 +184,7 @@ module _ (n capacity : ℕ) (events : List (ℕ × Action)) (nodes : List NodeVi
     unfolding May act
     crashed_shows =
         moved crash (grows_one n capacity events i (Crash false) shows.schedule (record { first = first; last = last; may = tt })) (reopened (opened v.base (durable_in v)) v)
-        (opened_again crash false (state_of v) (process-same n capacity events i (Crash false) ∙ ap (λ (s : NodeState). started (left_by false s)) (sym mine.state)))
+        (opened_again crash false (state_of v) (process-same all_fresh n capacity events i (Crash false) ∙ ap (λ (s : NodeState). started (left_by false s)) (sym mine.state)))
 
     pub stopped_shows : (flight : Flight) (keeps_flying : Bool) → Shows n capacity (events ++ flight_events flight (Crash keeps_flying)) (set nodes (i - 1) (reopened (left flight keeps_flying v) v))
     unfolding May

@@ -13,9 +13,10 @@ use Rattle.ring_records.specs.Ring.{part}
 use Rattle.ring_records.proofs.Leader.{Contains-nil}
 use Rattle.gated_journal.specs.Reading.{is_header}
 use Rattle.ring_node.specs.Node.{NodeView, new_node}
-use Rattle.ring_world.specs.Events.{process, IsSchedule}
+use Rattle.ring_world.specs.Events.{process}
 use Rattle.ring_world.specs.Shows.{ShowsNode, Shows, IsSound, IsSealed, held_of, new_nodes}
 use Rattle.ring_world.specs.State.{is_ring}
+use Rattle.ring_world.proofs.Processes.{fresh-formatted}
 
 pub header_fits : (k size capacity : ℕ) → is_ring size capacity ≡ true → k ≤ size → is_header (member k size capacity) ≡ true
 header_fits k size capacity ring inside = grind (arith, nat_tests)
@@ -67,9 +68,9 @@ fresh_node size capacity at = record {
 }
 
 pub fresh_shows : (size capacity : ℕ) → Shows size capacity [] (new_nodes size capacity size)
-unfolding IsSchedule EachAfter
+unfolding EachAfter
 fresh_shows size capacity = record {
-  schedule = tt;
+  schedule = record { formatted = fresh-formatted; each = tt };
   count = new_nodes_count size capacity size;
   node = λ at other lt. subst (ShowsNode size capacity [] (at + 1)) (sym (new_node_at size capacity size at other lt)) (fresh_node size capacity at);
 }

@@ -1,5 +1,5 @@
 -- What every action keeps of a node, and what it makes durable.
-use Rattle.std.proofs.Common.{ℕ, ◌≡◌, ◌⊎◌, ◌-◌, ◌≤◌, true, false, List, [], ◌∷◌, ◌++◌, length, take, drop, Option, Some, None, refl, sym, ap, ◌∙◌, subst, inl, inr, arith}
+use Rattle.std.proofs.Common.{ℕ, ◌≡◌, ◌⊎◌, ◌+◌, ◌-◌, ◌≤◌, true, false, List, [], ◌∷◌, ◌++◌, length, take, drop, Option, Some, None, refl, sym, ap, ◌∙◌, subst, inl, inr, arith}
 use Rattle.std.specs.List.{Contains}
 use Rattle.std.proofs.Math.Seq.{take-add}
 use Rattle.std.proofs.lemmas.List.{append-nil, length-append, take-append-le, take-append-drop, take_all}
@@ -8,15 +8,19 @@ use Rattle.ring_records.specs.declared.base.Base.{Base}
 use Rattle.ring_records.specs.declared.input.Input.{Input}
 use Rattle.ring_records.specs.declared.refusal.Refusal.{Refusal}
 use Rattle.ring_records.specs.declared.request.Request.{Request}
-use Rattle.ring_records.specs.Admission.{fresh, refusal, IsBaseOf, IsLawful}
+use Rattle.ring_records.specs.Admission.{base_of, refusal, IsBaseOf, IsLawful}
 use Rattle.ring_records.specs.Answer.{input_of, if_free, if_input, gained, answer, answered, Answered}
 use Rattle.ring_records.specs.Lists.{EachAfter}
 use Rattle.ring_records.specs.Member.{Member, member}
-use Rattle.ring_records.specs.States.{NodeState, IsLawfulState, launched_base, flying_in, left_by, gained_by, answered_by, opened, asked}
+use Rattle.ring_records.specs.Summary.{summary, empty}
+use Rattle.ring_records.specs.States.{NodeState, IsLawfulState, is_idle, launched_base, flying_in, left_by, gained_by, answered_by, opened, asked}
+use Rattle.std.proofs.lemmas.Option.{same_Some}
 use Rattle.ring_records.proofs.Leader.{Contains-nil, Contains-cons_cases}
-use Rattle.ring_records.proofs.States.{base-fresh, lawful-opened, lawful-asked, lawful-launched, lawful-launched_all, lawful-landed, lawful-left}
+use Rattle.ring_records.proofs.Sound.{summary-none}
+use Rattle.ring_records.proofs.States.{lawful-opened, lawful-asked, lawful-rebased, lawful-launched, lawful-launched_all, lawful-landed, lawful-left}
 use Rattle.ring_world.specs.Committed.{made_durable}
-use Rattle.ring_world.specs.Events.{Thing, Replied, WasAnswered, Rests, RestsOn, Action, Submit, Launch, LaunchAll, Land, Release, Crash, Process, started, act, May}
+use Rattle.ring_world.specs.Events.{Thing, Replied, WasAnswered, Rests, RestsOn, Action, Submit, Launch, LaunchAll, Land, Release, Crash, Process, started, launched_in, act, May}
+use Rattle.ring_world.specs.Start.{first_epoch, IsFormatted, all_fresh}
 
 -- ---- what a request adds
 
@@ -67,6 +71,25 @@ rests-new me n capacity base h q of = record {
       (sym (take_all (length (grown me n capacity base h q)) (grown me n capacity base h q) (omega arith))) (refl, answers-new me n capacity base h q of);
 }
 
+-- ---- checkpoints of any layout
+
+pub lawful-launched_in : (m : Member) (s : NodeState) (layout : ℕ) → is_idle s ≡ true → IsLawfulState m s → IsLawfulState m (launched_in layout m.node s)
+lawful-launched_in m s layout idle lawful =
+    let all = lawful-launched_all m s idle lawful in
+    let next : Base = base_of layout (s.base.epoch + 1) (summary m.node s.inputs) in
+    record {
+      counts = record {
+        durable = all.counts.durable;
+        flying = all.counts.flying;
+        based = all.counts.based;
+        checkpointed = λ b e. sym (ap (λ (c : Base). c.inputs) (same_Some next b e));
+      };
+      base = lawful.base;
+      next = record { within = omega arith; is = ap (λ (l : List Input). base_of layout (s.base.epoch + 1) (summary m.node l)) (sym (take_all (length s.inputs) s.inputs (omega arith))) };
+      held = all.held;
+      all = lawful-rebased m.node m.n m.capacity (launched_base s) next s.inputs (omega arith) lawful.all;
+    }
+
 -- ---- what every action keeps
 
 pub record Sound (me n capacity : ℕ) (p : Process) : Type 0 where
@@ -76,9 +99,24 @@ pub record Sound (me n capacity : ℕ) (p : Process) : Type 0 where
 sound-started : (me n capacity : ℕ) (s : NodeState) → IsLawfulState (member me n capacity) s → Sound me n capacity (started s)
 sound-started me n capacity s lawful = record { lawful = lawful; kept = λ a here. Contains-nil a here }
 
-pub sound-new : (me n capacity : ℕ) → Sound me n capacity (started (opened fresh []))
+-- a journal that holds no input stands for the first inputs of whatever history, which are none
+pub base-formatted : (me : ℕ) (base : Base) (h : List Input) → IsFormatted base → IsBaseOf me base h
+base-formatted me base h formatted =
+    let none : base.inputs ≡ 0 = ap (λ (b : Base). b.inputs) formatted.is in
+    let epoch : base.epoch ≡ first_epoch base.layout = ap (λ (b : Base). b.epoch) formatted.is in
+    let known : summary me (take base.inputs h) ≡ empty = ap (λ k. summary me (take k h)) none ∙ summary-none me in
+    record { within = omega (arith, none); is = formatted.is ∙ (λ i. base_of base.layout (sym epoch i) (sym known i)) }
+
+pub lawful-formatted : (m : Member) (base : Base) → IsFormatted base → IsLawfulState m (opened base [])
 unfolding IsLawful EachAfter
-sound-new me n capacity = sound-started me n capacity (opened fresh []) (lawful-opened (member me n capacity) fresh [] (base-fresh me []) tt)
+lawful-formatted m base formatted = lawful-opened m base [] (base-formatted m.node base [] formatted) tt
+
+pub sound-new : (me n capacity : ℕ) (base : Base) → IsFormatted base → Sound me n capacity (started (opened base []))
+sound-new me n capacity base formatted = sound-started me n capacity (opened base []) (lawful-formatted (member me n capacity) base formatted)
+
+-- this release's format is one of them
+pub fresh-formatted : (i : ℕ) → IsFormatted (all_fresh i)
+fresh-formatted i = record { least = omega arith; most = omega arith; is = refl }
 
 module _ (me n capacity : ℕ) (p : Process) (sound : Sound me n capacity p) where
   abbrev s : NodeState
@@ -103,7 +141,7 @@ module _ (me n capacity : ℕ) (p : Process) (sound : Sound me n capacity p) whe
   unfolding act May
   sound-next events (Submit q) may = record { lawful = lawful-asked m s q sound.lawful; kept = kept-asked q }
   sound-next events Launch idle = record { lawful = lawful-launched m s idle sound.lawful; kept = sound.kept }
-  sound-next events LaunchAll idle = record { lawful = lawful-launched_all m s idle sound.lawful; kept = sound.kept }
+  sound-next events (LaunchAll layout) may = record { lawful = lawful-launched_in m s layout may.0 sound.lawful; kept = sound.kept }
   sound-next events Land may = record { lawful = lawful-landed m s sound.lawful; kept = sound.kept }
   sound-next events (Release t) may = sound
   sound-next events (Crash keeps_flying) may = sound-started me n capacity (left_by keeps_flying s) (lawful-left m keeps_flying s sound.lawful)
@@ -117,7 +155,7 @@ module _ (me n capacity : ℕ) (p : Process) (sound : Sound me n capacity p) whe
   unfolding act made_durable
   durable-next (Submit q) = append-nil _ ∙ sym (take-append-le s.durable s.inputs _ (let l = low in let h = high in omega arith))
   durable-next Launch = append-nil _
-  durable-next LaunchAll = append-nil _
+  durable-next (LaunchAll layout) = append-nil _
   durable-next Land = flies
   durable-next (Release t) = append-nil _
   durable-next (Crash true) = flies ∙ sym (take_all _ (take s.flying s.inputs) (omega arith))
@@ -134,7 +172,7 @@ module _ (me n capacity : ℕ) (p : Process) (sound : Sound me n capacity p) whe
     | inr new ↦ inr (q, refl, gained-asked me n capacity (launched_base s) s.inputs q x new)
   ]
   inputs-next Launch x here = inl here
-  inputs-next LaunchAll x here = inl here
+  inputs-next (LaunchAll layout) x here = inl here
   inputs-next Land x here = inl here
   inputs-next (Release t) x here = inl here
   inputs-next (Crash true) x here = inl (contains-taken _ x here)
@@ -148,7 +186,7 @@ module _ (me n capacity : ℕ) (p : Process) (sound : Sound me n capacity p) whe
   unfolding made_durable
   durable-accepted (Submit q) x here = Contains-nil x here
   durable-accepted Launch x here = Contains-nil x here
-  durable-accepted LaunchAll x here = Contains-nil x here
+  durable-accepted (LaunchAll layout) x here = Contains-nil x here
   durable-accepted Land x here = contains-flying x here
   durable-accepted (Release t) x here = Contains-nil x here
   durable-accepted (Crash true) x here = contains-flying x here

@@ -50,25 +50,25 @@ fronts d e xs ys more inside outside same k less =
 durable_within : (s : NodeState) → IsNodeState s → s.durable ≤ length s.inputs
 durable_within s counts = let d = counts.durable in let f = counts.flying in omega arith
 
-may_release : (n capacity : ℕ) (events : List (ℕ × Action)) (i : ℕ) (t : Thing) → MayHappen n capacity events (i, Release t) → IsReleasable i n capacity (process n capacity events i) t
+may_release : (start : ℕ → Base) (n capacity : ℕ) (events : List (ℕ × Action)) (i : ℕ) (t : Thing) → MayHappen start n capacity events (i, Release t) → IsReleasable i n capacity (process start n capacity events i) t
 unfolding May
-may_release n capacity events i t h = h.may
+may_release start n capacity events i t h = h.may
 
-module _ (n capacity : ℕ) (early late : List (ℕ × Action)) (before : Holds n capacity early) (after : Holds n capacity (early ++ late)) (i : ℕ) where
+module _ (start : ℕ → Base) (n capacity : ℕ) (early late : List (ℕ × Action)) (before : Holds start n capacity early) (after : Holds start n capacity (early ++ late)) (i : ℕ) where
   abbrev at_release : NodeState
-  at_release = state_after n capacity early i
+  at_release = state_after start n capacity early i
 
   abbrev now : NodeState
-  now = state_after n capacity (early ++ late) i
+  now = state_after start n capacity (early ++ late) i
 
   grows : (rest : List Input) × (take now.durable now.inputs ≡ take at_release.durable at_release.inputs ++ rest)
   unfolding committed
   grows = (
-    part (joined_after (committed_by n capacity) early late) i,
+    part (joined_after (committed_by start n capacity) early late) i,
     sym (after.parts i)
-        ∙ (ap (λ r. part r i) (joined_after-append (committed_by n capacity) early late)
-        ∙ (part-append (joined_after (committed_by n capacity) [] early) (joined_after (committed_by n capacity) early late) i
-        ∙ ap (λ ys. ys ++ part (joined_after (committed_by n capacity) early late) i) (before.parts i))),
+        ∙ (ap (λ r. part r i) (joined_after-append (committed_by start n capacity) early late)
+        ∙ (part-append (joined_after (committed_by start n capacity) [] early) (joined_after (committed_by start n capacity) early late) i
+        ∙ ap (λ ys. ys ++ part (joined_after (committed_by start n capacity) early late) i) (before.parts i))),
   )
 
   stays : (k : ℕ) → k ≤ at_release.durable → record { durable : k ≤ now.durable; same : take k now.inputs ≡ take k at_release.inputs }
@@ -82,7 +82,7 @@ module _ (n capacity : ℕ) (early late : List (ℕ × Action)) (before : Holds 
       let kept = stays r.number less in
       record { number = r.number; rested = record { within = omega arith; rests = r.rests }; was_durable = less; is_durable = kept.durable; same = kept.same }
 
-  released-kept : (t : Thing) → IsReleasable i n capacity (process n capacity early i) t → IsKept i n capacity t at_release now
+  released-kept : (t : Thing) → IsReleasable i n capacity (process start n capacity early i) t → IsKept i n capacity t at_release now
   unfolding IsReleasable
   released-kept (Replied a) r =
       let kept = stays a.answer.number r.1 in
@@ -90,33 +90,32 @@ module _ (n capacity : ℕ) (early late : List (ℕ × Action)) (before : Holds 
   released-kept (Sent packet) r = durable-kept (Sent packet) r
   released-kept (Shown key c) r = durable-kept (Shown key c) r
 
-pub prefix_kept : (n capacity : ℕ) (early late : List (ℕ × Action)) (i : ℕ) (t : Thing) → IsSchedule n capacity (early ++ (i, Release t) ∷ late)
-    → IsKept i n capacity t (state_after n capacity early i) (state_after n capacity (early ++ (i, Release t) ∷ late) i)
-unfolding IsSchedule
-prefix_kept n capacity early late i t s =
-    released-kept n capacity early ((i, Release t) ∷ late)
-    (schedule_holds n capacity early (EachAfter-front (MayHappen n capacity) [] early ((i, Release t) ∷ late) s))
-    (schedule_holds n capacity (early ++ (i, Release t) ∷ late) s) i t
-    (may_release n capacity early i t (EachAfter-at (MayHappen n capacity) [] early (i, Release t) late s))
+pub prefix_kept : (start : ℕ → Base) (n capacity : ℕ) (early late : List (ℕ × Action)) (i : ℕ) (t : Thing) → IsSchedule start n capacity (early ++ (i, Release t) ∷ late)
+    → IsKept i n capacity t (state_after start n capacity early i) (state_after start n capacity (early ++ (i, Release t) ∷ late) i)
+prefix_kept start n capacity early late i t s =
+    released-kept start n capacity early ((i, Release t) ∷ late)
+    (schedule_holds start n capacity early (record { formatted = s.formatted; each = EachAfter-front (MayHappen start n capacity) [] early ((i, Release t) ∷ late) s.each }))
+    (schedule_holds start n capacity (early ++ (i, Release t) ∷ late) s) i t
+    (may_release start n capacity early i t (EachAfter-at (MayHappen start n capacity) [] early (i, Release t) late s.each))
 
 -- ---- the run of what is durable
 
-pub committed_legal : (n capacity : ℕ) (events : List (ℕ × Action)) → IsSchedule n capacity events → IsLegal n (committed n capacity events)
-committed_legal n capacity events s = (schedule_holds n capacity events s).legal
+pub committed_legal : (start : ℕ → Base) (n capacity : ℕ) (events : List (ℕ × Action)) → IsSchedule start n capacity events → IsLegal n (committed start n capacity events)
+committed_legal start n capacity events s = (schedule_holds start n capacity events s).legal
 
-pub committed_parts : (n capacity : ℕ) (events : List (ℕ × Action)) (i : ℕ) → IsSchedule n capacity events
-    → part (committed n capacity events) i ≡ take (state_after n capacity events i).durable (state_after n capacity events i).inputs
-committed_parts n capacity events i s = (schedule_holds n capacity events s).parts i
+pub committed_parts : (start : ℕ → Base) (n capacity : ℕ) (events : List (ℕ × Action)) (i : ℕ) → IsSchedule start n capacity events
+    → part (committed start n capacity events) i ≡ take (state_after start n capacity events i).durable (state_after start n capacity events i).inputs
+committed_parts start n capacity events i s = (schedule_holds start n capacity events s).parts i
 
 -- what is durable in a schedule fits
-pub ring_fits : (n capacity : ℕ) (events : List (ℕ × Action)) → IsSchedule n capacity events → RingFits n (λ i place. Unit {0}) (λ i. durable_in (state_after n capacity events i))
-ring_fits n capacity events s =
-    let shown : (i : ℕ) (key : Key) (c : Candidate) → leader i (durable_in (state_after n capacity events i)) key ≡ Some c → IsShown n (committed n capacity events) key c =
-    λ i key c leads. shown_by n (committed n capacity events) key c (committed_legal n capacity events s) i (durable_in (state_after n capacity events i)) [] (append-nil _ ∙ sym (committed_parts n capacity events i s))
-    (leader-shown i (durable_in (state_after n capacity events i)) key c leads) in
+pub ring_fits : (start : ℕ → Base) (n capacity : ℕ) (events : List (ℕ × Action)) → IsSchedule start n capacity events → RingFits n (λ i place. Unit {0}) (λ i. durable_in (state_after start n capacity events i))
+ring_fits start n capacity events s =
+    let shown : (i : ℕ) (key : Key) (c : Candidate) → leader i (durable_in (state_after start n capacity events i)) key ≡ Some c → IsShown n (committed start n capacity events) key c =
+    λ i key c leads. shown_by n (committed start n capacity events) key c (committed_legal start n capacity events s) i (durable_in (state_after start n capacity events i)) [] (append-nil _ ∙ sym (committed_parts start n capacity events i s))
+    (leader-shown i (durable_in (state_after start n capacity events i)) key c leads) in
     record {
-      links = λ i low high. link_fits n capacity events s i low high;
-      leaders = λ i j low high low_j high_j key c d one other. agree n (committed n capacity events) key c (committed_legal n capacity events s) d (shown i key c one) (shown j key d other);
+      links = λ i low high. link_fits start n capacity events s i low high;
+      leaders = λ i j low high low_j high_j key c d one other. agree n (committed start n capacity events) key c (committed_legal start n capacity events s) d (shown i key c one) (shown j key d other);
     }
 
 -- ---- answers that name a leader
@@ -163,25 +162,25 @@ rests-shows me n capacity h (Shown asked d) key c r e =
     ap (first_leader me h) (sym (ap (λ (w : Key × Candidate). w.0) both)) ∙ (leader-shown me h asked d r ∙ ap (λ (w : Key × Candidate). Some w.1) both)
 
 -- a leader that was announced is shown in the run
-announced-shown : (n capacity : ℕ) (events : List (ℕ × Action)) (key : Key) (c : Candidate) → IsSchedule n capacity events → IsAnnounced events key c → IsShown n (committed n capacity events) key c
-announced-shown n capacity events key c s a =
+announced-shown : (start : ℕ → Base) (n capacity : ℕ) (events : List (ℕ × Action)) (key : Key) (c : Candidate) → IsSchedule start n capacity events → IsAnnounced events key c → IsShown n (committed start n capacity events) key c
+announced-shown start n capacity events key c s a =
     let at = split_at events (a.node, Release a.thing) a.released in
-    let now = state_after n capacity events a.node in
-    let kept : IsKept a.node n capacity a.thing (state_after n capacity at.0 a.node) now =
-    subst (λ es. IsKept a.node n capacity a.thing (state_after n capacity at.0 a.node) (state_after n capacity es a.node)) (sym at.2)
-    (prefix_kept n capacity at.0 at.1 a.node a.thing (subst (IsSchedule n capacity) at.2 s)) in
-    shown_by n (committed n capacity events) key c (committed_legal n capacity events s) a.node (take kept.number now.inputs) (drop kept.number (take now.durable now.inputs))
-    (take-less kept.number now.durable now.inputs kept.is_durable ∙ sym (committed_parts n capacity events a.node s))
+    let now = state_after start n capacity events a.node in
+    let kept : IsKept a.node n capacity a.thing (state_after start n capacity at.0 a.node) now =
+    subst (λ es. IsKept a.node n capacity a.thing (state_after start n capacity at.0 a.node) (state_after start n capacity es a.node)) (sym at.2)
+    (prefix_kept start n capacity at.0 at.1 a.node a.thing (subst (IsSchedule start n capacity) at.2 s)) in
+    shown_by n (committed start n capacity events) key c (committed_legal start n capacity events s) a.node (take kept.number now.inputs) (drop kept.number (take now.durable now.inputs))
+    (take-less kept.number now.durable now.inputs kept.is_durable ∙ sym (committed_parts start n capacity events a.node s))
     (rests-shows a.node n capacity (take kept.number now.inputs) a.thing key c (subst (λ h. Rests a.node n capacity h a.thing) (sym kept.same) kept.rested.rests) a.names)
 
-pub one_leader : (n capacity : ℕ) (events : List (ℕ × Action)) (key : Key) (c d : Candidate) → IsSchedule n capacity events → IsAnnounced events key c → IsAnnounced events key d → c ≡ d
-one_leader n capacity events key c d s a b =
-    agree n (committed n capacity events) key c (committed_legal n capacity events s) d (announced-shown n capacity events key c s a) (announced-shown n capacity events key d s b)
+pub one_leader : (start : ℕ → Base) (n capacity : ℕ) (events : List (ℕ × Action)) (key : Key) (c d : Candidate) → IsSchedule start n capacity events → IsAnnounced events key c → IsAnnounced events key d → c ≡ d
+one_leader start n capacity events key c d s a b =
+    agree n (committed start n capacity events) key c (committed_legal start n capacity events s) d (announced-shown start n capacity events key c s a) (announced-shown start n capacity events key d s b)
 
-pub leader_stands : (n capacity : ℕ) (events : List (ℕ × Action)) (key : Key) (c : Candidate) → IsSchedule n capacity events → IsAnnounced events key c
-    → Contains (committed n capacity events) (c.node, Stand key c.bid)
-leader_stands n capacity events key c s a = stands n (committed n capacity events) key c (committed_legal n capacity events s) (announced-shown n capacity events key c s a)
+pub leader_stands : (start : ℕ → Base) (n capacity : ℕ) (events : List (ℕ × Action)) (key : Key) (c : Candidate) → IsSchedule start n capacity events → IsAnnounced events key c
+    → Contains (committed start n capacity events) (c.node, Stand key c.bid)
+leader_stands start n capacity events key c s a = stands n (committed start n capacity events) key c (committed_legal start n capacity events s) (announced-shown start n capacity events key c s a)
 
-pub leader_greatest : (n capacity : ℕ) (events : List (ℕ × Action)) (key : Key) (c d : Candidate) → IsSchedule n capacity events → IsAnnounced events key c
-    → Contains (committed n capacity events) (d.node, Stand key d.bid) → d ≢ c → is_less d c ≡ true
-leader_greatest n capacity events key c d s a = greatest n (committed n capacity events) key c (committed_legal n capacity events s) d (announced-shown n capacity events key c s a)
+pub leader_greatest : (start : ℕ → Base) (n capacity : ℕ) (events : List (ℕ × Action)) (key : Key) (c d : Candidate) → IsSchedule start n capacity events → IsAnnounced events key c
+    → Contains (committed start n capacity events) (d.node, Stand key d.bid) → d ≢ c → is_less d c ≡ true
+leader_greatest start n capacity events key c d s a = greatest n (committed start n capacity events) key c (committed_legal start n capacity events s) d (announced-shown start n capacity events key c s a)

@@ -7,6 +7,7 @@ use Rattle.ring_records.specs.States.{asked as asked_state, launched, landed as 
 use Rattle.ring_node.specs.declared.flight.Flight.TheVariants.{Batch}
 use Rattle.ring_world.specs.Events.{Submit, Launch, Land, Process, act}
 use Rattle.ring_world.specs.Ring.{RingView, node_at, asked, landed, waits, settled, due_at, given}
+use Rattle.ring_world.specs.Start.{all_fresh}
 use Rattle.ring_world.proofs.Moves.{process_two, process_two-other, process-release, process-releases}
 use Rattle.ring_world.proofs.Schedules.{process-same, process-other}
 
@@ -28,11 +29,11 @@ module _ (w : RingView) (i : ℕ) where
 
   pub node_asked : (serial : Option ℕ) (q : Request) → node_at (asked serial i q w) i ≡ asked_state (member i w.size w.capacity) (node_at w i) q
   unfolding asked act
-  node_asked serial q = ap (λ (p : Process). p.state) (process-same w.size w.capacity w.events i (Submit q))
+  node_asked serial q = ap (λ (p : Process). p.state) (process-same all_fresh w.size w.capacity w.events i (Submit q))
 
   pub asked-other : (serial : Option ℕ) (q : Request) (j : ℕ) → (i ≡ j → ⊥) → node_at (asked serial i q w) j ≡ node_at w j
   unfolding asked
-  asked-other serial q j ne = ap (λ (p : Process). p.state) (process-other w.size w.capacity w.events i (Submit q) j ne)
+  asked-other serial q j ne = ap (λ (p : Process). p.state) (process-other all_fresh w.size w.capacity w.events i (Submit q) j ne)
 
   -- where something waits, a batch of node i lands
   pub node_landed : waits w i ≡ true → node_at (landed Batch i w) i ≡ landed_state (launched (node_at w i))

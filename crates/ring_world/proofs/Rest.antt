@@ -6,7 +6,7 @@ use Rattle.ring_records.specs.declared.base.Base.{Base}
 use Rattle.ring_records.specs.declared.input.Input.{Input}
 use Rattle.ring_records.specs.declared.refusal.Refusal.{Refusal}
 use Rattle.ring_records.specs.declared.request.Request.{Request}
-use Rattle.ring_records.specs.Admission.{refusal}
+use Rattle.ring_records.specs.Admission.{newest, refusal}
 use Rattle.ring_records.specs.Answer.{input_of, gained, if_free, if_input}
 use Rattle.ring_records.specs.Member.{member}
 use Rattle.ring_records.specs.Ring.{part}
@@ -16,6 +16,7 @@ use Rattle.ring_node.specs.declared.flight.Flight.TheVariants.{Batch, Checkpoint
 use Rattle.ring_world.specs.Events.{Action, LaunchAll, Land, Crash, Process, act, process, state_after}
 use Rattle.ring_world.specs.Rest.{IsAllDurable}
 use Rattle.ring_world.specs.Ring.{RingView, IsSameRing, Part, node_at, asked, launch, landed, waits, settled, released, and_then, round, rounds, drained, crashed, stopped, given, brought, swept, swept_with, swept_on, swept_one, next_delivery, new_ring}
+use Rattle.ring_world.specs.Start.{all_fresh}
 use Rattle.ring_world.proofs.Moves.{process_two, process_two-other}
 use Rattle.ring_world.proofs.Reached.{node_given, node_settled, node_asked, asked-other, node_landed, landed-other, landed_idle}
 use Rattle.ring_world.proofs.Schedules.{process-same, process-other}
@@ -135,16 +136,16 @@ pub durable_settled : (i : ℕ) (w : RingView) → IsAllDurable w → IsAllDurab
 unfolding IsAllDurable
 durable_settled i w all = λ j. subst IsStill (sym (node_settled w i j)) (all j)
 
-module _ (n capacity : ℕ) (events : List (ℕ × Action)) (i : ℕ) (all : (j : ℕ) → IsStill (state_after n capacity events j)) where
-  still_one : (a : Action) → IsStill (act i n capacity (process n capacity events i) a).state → (j : ℕ) → IsStill (state_after n capacity (events ++ (i, a) ∷ []) j)
+module _ (n capacity : ℕ) (events : List (ℕ × Action)) (i : ℕ) (all : (j : ℕ) → IsStill (state_after all_fresh n capacity events j)) where
+  still_one : (a : Action) → IsStill (act i n capacity (process all_fresh n capacity events i) a).state → (j : ℕ) → IsStill (state_after all_fresh n capacity (events ++ (i, a) ∷ []) j)
   still_one a here j = elim (cases_eq i j) [
-    | inl e ↦ subst (λ k. IsStill (state_after n capacity (events ++ (i, a) ∷ []) k)) e (subst (λ (p : Process). IsStill p.state) (sym (process-same n capacity events i a)) here)
-    | inr ne ↦ subst (λ (p : Process). IsStill p.state) (sym (process-other n capacity events i a j ne)) (all j)
+    | inl e ↦ subst (λ k. IsStill (state_after all_fresh n capacity (events ++ (i, a) ∷ []) k)) e (subst (λ (p : Process). IsStill p.state) (sym (process-same all_fresh n capacity events i a)) here)
+    | inr ne ↦ subst (λ (p : Process). IsStill p.state) (sym (process-other all_fresh n capacity events i a j ne)) (all j)
   ]
 
-  still_two : (a b : Action) → IsStill (act i n capacity (act i n capacity (process n capacity events i) a) b).state → (j : ℕ) → IsStill (state_after n capacity (events ++ (i, a) ∷ (i, b) ∷ []) j)
+  still_two : (a b : Action) → IsStill (act i n capacity (act i n capacity (process all_fresh n capacity events i) a) b).state → (j : ℕ) → IsStill (state_after all_fresh n capacity (events ++ (i, a) ∷ (i, b) ∷ []) j)
   still_two a b here j = elim (cases_eq i j) [
-    | inl e ↦ subst (λ k. IsStill (state_after n capacity (events ++ (i, a) ∷ (i, b) ∷ []) k)) e (subst (λ (p : Process). IsStill p.state) (sym (process_two n capacity events i a b)) here)
+    | inl e ↦ subst (λ k. IsStill (state_after all_fresh n capacity (events ++ (i, a) ∷ (i, b) ∷ []) k)) e (subst (λ (p : Process). IsStill p.state) (sym (process_two n capacity events i a b)) here)
     | inr ne ↦ subst (λ (p : Process). IsStill p.state) (sym (process_two-other n capacity events i a b j ne)) (all j)
   ]
 
@@ -159,7 +160,7 @@ still_left false s = refl
 
 pub durable_stopped : (flight : Flight) (keeps_flying : Bool) (i : ℕ) (w : RingView) → IsAllDurable w → IsAllDurable (stopped flight keeps_flying i w)
 unfolding stopped act IsAllDurable
-durable_stopped flight keeps_flying i w all = still_two w.size w.capacity w.events i all (launch flight) (Crash keeps_flying) (still_left keeps_flying (act i w.size w.capacity (process w.size w.capacity w.events i) (launch flight)).state)
+durable_stopped flight keeps_flying i w all = still_two w.size w.capacity w.events i all (launch flight) (Crash keeps_flying) (still_left keeps_flying (act i w.size w.capacity (process all_fresh w.size w.capacity w.events i) (launch flight)).state)
 
 -- nor does a round
 durable_landed : (flight : Flight) (i : ℕ) (w : RingView) → IsAllDurable w → IsAllDurable (landed flight i w)
@@ -169,7 +170,7 @@ durable_landed Batch i w all = by_waiting (waits w i) refl
     by_waiting : (b : Bool) → waits w i ≡ b → IsAllDurable (landed Batch i w)
     by_waiting true e = (let is = at_node w i all in let low = ltb-true (node_at w i).durable (length (node_at w i).inputs) e in absurd (omega arith))
     by_waiting false e = subst IsAllDurable (sym (landed_idle w i e)) all
-durable_landed Checkpoint i w all = still_two w.size w.capacity w.events i all LaunchAll Land refl
+durable_landed Checkpoint i w all = still_two w.size w.capacity w.events i all (LaunchAll newest) Land refl
 
 pub durable_round : (flight : Flight) (i : ℕ) (w : RingView) → IsAllDurable w → IsAllDurable (round flight i w).1
 durable_round flight i w all = durable_settled i (landed flight i w) (durable_landed flight i w all)

@@ -12,7 +12,7 @@ use Rattle.ring_records.specs.declared.packet.Packet.{Packet}
 use Rattle.ring_records.specs.declared.packet.Packet.TheVariants.{Carry, Credit}
 use Rattle.ring_records.specs.declared.request.Request.{Request}
 use Rattle.ring_records.specs.declared.request.Request.TheVariants as ask
-use Rattle.ring_records.specs.Admission.{fresh, IsAdmitted, IsLawful}
+use Rattle.ring_records.specs.Admission.{IsAdmitted, IsLawful}
 use Rattle.ring_records.specs.Answer.{input_of, PacketRests}
 use Rattle.ring_records.specs.Lists.{EachAfter, joined_after}
 use Rattle.ring_records.specs.Place.{before, after}
@@ -26,22 +26,23 @@ use Rattle.ring_records.proofs.Ring.{part-push}
 use Rattle.ring_records.proofs.States.{lawful-first}
 use Rattle.ring_world.specs.Committed.{made_durable, committed_by, committed}
 use Rattle.ring_world.specs.Events.{Sent, Rests, Action, Submit, Release, Process, started, act, process, state_after, IsDelivered, IsReleasable, May, MayHappen, IsSchedule}
+use Rattle.ring_world.specs.Start.{IsFormatted}
 use Rattle.ring_world.proofs.Processes.{Sound, sound-new, sound-next, durable-next, inputs-next, durable-accepted}
 use Rattle.history_laws.proofs.Runs.{part-append}
 use Rattle.ring_world.proofs.Runs.{part-same, part-other}
 
 -- ---- one more event
 
-pub process-same : (n capacity : ℕ) (events : List (ℕ × Action)) (j : ℕ) (a : Action) → process n capacity (events ++ (j, a) ∷ []) j ≡ act j n capacity (process n capacity events j) a
+pub process-same : (start : ℕ → Base) (n capacity : ℕ) (events : List (ℕ × Action)) (j : ℕ) (a : Action) → process start n capacity (events ++ (j, a) ∷ []) j ≡ act j n capacity (process start n capacity events j) a
 unfolding process item_at
-process-same n capacity events j a =
-    ap (fold (act j n capacity) (started (opened fresh []))) (part-push events (j, a) j ∙ ap (λ b. part events j ++ cons_option (cond b (Some a) None) []) (eq-eqb j j refl))
-    ∙ fold-append (act j n capacity) (started (opened fresh [])) (part events j) (a ∷ [])
+process-same start n capacity events j a =
+    ap (fold (act j n capacity) (started (opened (start j) []))) (part-push events (j, a) j ∙ ap (λ b. part events j ++ cons_option (cond b (Some a) None) []) (eq-eqb j j refl))
+    ∙ fold-append (act j n capacity) (started (opened (start j) [])) (part events j) (a ∷ [])
 
-pub process-other : (n capacity : ℕ) (events : List (ℕ × Action)) (j : ℕ) (a : Action) (i : ℕ) → (j ≡ i → ⊥) → process n capacity (events ++ (j, a) ∷ []) i ≡ process n capacity events i
+pub process-other : (start : ℕ → Base) (n capacity : ℕ) (events : List (ℕ × Action)) (j : ℕ) (a : Action) (i : ℕ) → (j ≡ i → ⊥) → process start n capacity (events ++ (j, a) ∷ []) i ≡ process start n capacity events i
 unfolding process item_at
-process-other n capacity events j a i ne =
-    ap (fold (act i n capacity) (started (opened fresh []))) (part-push events (j, a) i ∙ (ap (λ b. part events i ++ cons_option (cond b (Some a) None) []) (ne_eqb j i ne) ∙ append-nil (part events i)))
+process-other start n capacity events j a i ne =
+    ap (fold (act i n capacity) (started (opened (start i) []))) (part-push events (j, a) i ∙ (ap (λ b. part events i ++ cons_option (cond b (Some a) None) []) (ne_eqb j i ne) ∙ append-nil (part events i)))
 
 -- ---- runs that go on
 
@@ -69,13 +70,13 @@ legal-more n capacity j base first last (x ∷ xs) run legal lawful carried =
 
 -- ---- what every schedule keeps
 
-pub record Holds (n capacity : ℕ) (events : List (ℕ × Action)) : Type 0 where
-  pub sound : (i : ℕ) → Sound i n capacity (process n capacity events i)
-  pub parts : (i : ℕ) → part (committed n capacity events) i ≡ take (state_after n capacity events i).durable (state_after n capacity events i).inputs
-  pub legal : IsLegal n (committed n capacity events)
+pub record Holds (start : ℕ → Base) (n capacity : ℕ) (events : List (ℕ × Action)) : Type 0 where
+  pub sound : (i : ℕ) → Sound i n capacity (process start n capacity events i)
+  pub parts : (i : ℕ) → part (committed start n capacity events) i ≡ take (state_after start n capacity events i).durable (state_after start n capacity events i).inputs
+  pub legal : IsLegal n (committed start n capacity events)
   -- what a node accepted, durable or not, came of what is durable at its neighbours
-  pub carried : (i : ℕ) (x : Input) → Contains (state_after n capacity events i).inputs x → IsCarried n (committed n capacity events) i x
-  pub packets : (i : ℕ) (p : Packet) → Contains events (i, Release (Sent p)) → PacketRests i (part (committed n capacity events) i) p
+  pub carried : (i : ℕ) (x : Input) → Contains (state_after start n capacity events i).inputs x → IsCarried n (committed start n capacity events) i x
+  pub packets : (i : ℕ) (p : Packet) → Contains events (i, Release (Sent p)) → PacketRests i (part (committed start n capacity events) i) p
 
 -- what a request brings is carried
 module _ (n : ℕ) (events : List (ℕ × Action)) (run : List (ℕ × Input)) (packets : (i : ℕ) (p : Packet) → Contains events (i, Release (Sent p)) → PacketRests i (part run i) p) where
@@ -88,53 +89,53 @@ module _ (n : ℕ) (events : List (ℕ × Action)) (run : List (ℕ × Input)) (
   delivered i (ask.Who key) x d e = none≢some x e
   delivered i (ask.Latest group) x d e = none≢some x e
 
-module _ (n capacity : ℕ) (events : List (ℕ × Action)) (j : ℕ) (a : Action) where
+module _ (start : ℕ → Base) (n capacity : ℕ) (events : List (ℕ × Action)) (j : ℕ) (a : Action) where
   abbrev later : List (ℕ × Action)
   later = events ++ (j, a) ∷ []
 
   abbrev run : List (ℕ × Input)
-  run = committed n capacity events
+  run = committed start n capacity events
 
   abbrev new_inputs : List Input
-  new_inputs = made_durable (state_after n capacity events j) a
+  new_inputs = made_durable (state_after start n capacity events j) a
 
   abbrev more : List (ℕ × Input)
   more = map (λ x. (j, x)) new_inputs
 
-  committed-next : committed n capacity later ≡ run ++ more
+  committed-next : committed start n capacity later ≡ run ++ more
   unfolding committed committed_by
-  committed-next = joined_after-push (committed_by n capacity) events (j, a)
+  committed-next = joined_after-push (committed_by start n capacity) events (j, a)
 
   -- what holds of the acting node after its action, and held of each node before
-  by_node : (F : ℕ → Process → Type 0) → F j (act j n capacity (process n capacity events j) a) → ((i : ℕ) → F i (process n capacity events i)) → (i : ℕ) → F i (process n capacity later i)
+  by_node : (F : ℕ → Process → Type 0) → F j (act j n capacity (process start n capacity events j) a) → ((i : ℕ) → F i (process start n capacity events i)) → (i : ℕ) → F i (process start n capacity later i)
   by_node F new old i = elim (cases_eq j i) [
-    | inl e ↦ subst (λ k. F k (process n capacity later k)) e (subst (F j) (sym (process-same n capacity events j a)) new)
-    | inr ne ↦ subst (F i) (sym (process-other n capacity events j a i ne)) (old i)
+    | inl e ↦ subst (λ k. F k (process start n capacity later k)) e (subst (F j) (sym (process-same start n capacity events j a)) new)
+    | inr ne ↦ subst (F i) (sym (process-other start n capacity events j a i ne)) (old i)
   ]
 
-  part-next : (i : ℕ) → part (committed n capacity later) i ≡ part run i ++ part more i
+  part-next : (i : ℕ) → part (committed start n capacity later) i ≡ part run i ++ part more i
   part-next i = ap (λ r. part r i) committed-next ∙ part-append run more i
 
-  module _ (h : MayHappen n capacity events (j, a)) (w : Holds n capacity events) where
+  module _ (h : MayHappen start n capacity events (j, a)) (w : Holds start n capacity events) where
     abbrev p : Process
-    p = process n capacity events j
+    p = process start n capacity events j
 
     mine : Sound j n capacity p
     mine = w.sound j
 
-    parts-next : (i : ℕ) → part (committed n capacity later) i ≡ take (state_after n capacity later i).durable (state_after n capacity later i).inputs
+    parts-next : (i : ℕ) → part (committed start n capacity later) i ≡ take (state_after start n capacity later i).durable (state_after start n capacity later i).inputs
     parts-next i = ap (λ r. part r i) committed-next ∙ elim (cases_eq j i) [
-      | inl e ↦ subst (λ k. part (run ++ more) k ≡ take (state_after n capacity later k).durable (state_after n capacity later k).inputs) e same
+      | inl e ↦ subst (λ k. part (run ++ more) k ≡ take (state_after start n capacity later k).durable (state_after start n capacity later k).inputs) e same
       | inr ne ↦ other ne
     ]
       where
-        same : part (run ++ more) j ≡ take (state_after n capacity later j).durable (state_after n capacity later j).inputs
+        same : part (run ++ more) j ≡ take (state_after start n capacity later j).durable (state_after start n capacity later j).inputs
         same = part-same run j new_inputs
             ∙ (ap (λ ys. ys ++ new_inputs) (w.parts j)
-            ∙ (durable-next j n capacity p mine a ∙ ap (λ (q : Process). take q.state.durable q.state.inputs) (sym (process-same n capacity events j a))))
+            ∙ (durable-next j n capacity p mine a ∙ ap (λ (q : Process). take q.state.durable q.state.inputs) (sym (process-same start n capacity events j a))))
 
-        other : (j ≡ i → ⊥) → part (run ++ more) i ≡ take (state_after n capacity later i).durable (state_after n capacity later i).inputs
-        other ne = part-other run j i new_inputs ne ∙ (w.parts i ∙ ap (λ (q : Process). take q.state.durable q.state.inputs) (sym (process-other n capacity events j a i ne)))
+        other : (j ≡ i → ⊥) → part (run ++ more) i ≡ take (state_after start n capacity later i).durable (state_after start n capacity later i).inputs
+        other ne = part-other run j i new_inputs ne ∙ (w.parts i ∙ ap (λ (q : Process). take q.state.durable q.state.inputs) (sym (process-other start n capacity events j a i ne)))
 
     sound-here : Sound j n capacity (act j n capacity p a)
     sound-here = sound-next j n capacity p mine events a h.may
@@ -145,7 +146,7 @@ module _ (n capacity : ℕ) (events : List (ℕ × Action)) (j : ℕ) (a : Actio
     lawful-here : IsLawful j n capacity base (part run j ++ new_inputs)
     lawful-here = subst (IsLawful j n capacity base) (sym (ap (λ ys. ys ++ new_inputs) (w.parts j) ∙ durable-next j n capacity p mine a)) (lawful-first j n capacity base _ _ sound-here.lawful.all)
 
-    legal-next : IsLegal n (committed n capacity later)
+    legal-next : IsLegal n (committed start n capacity later)
     legal-next = subst (IsLegal n) (sym committed-next) (legal-more n capacity j base h.first h.last new_inputs run w.legal lawful-here (λ x here. w.carried j x (durable-accepted j n capacity p mine a x here)))
 
     submitted : (q : Request) (x : Input) → a ≡ Submit q → input_of q ≡ Some x → IsCarried n run j x
@@ -158,7 +159,7 @@ module _ (n capacity : ℕ) (events : List (ℕ × Action)) (j : ℕ) (a : Actio
       | inr new ↦ submitted new.0 x new.1 new.2
     ]
 
-    carried-next : (i : ℕ) (x : Input) → Contains (state_after n capacity later i).inputs x → IsCarried n (committed n capacity later) i x
+    carried-next : (i : ℕ) (x : Input) → Contains (state_after start n capacity later i).inputs x → IsCarried n (committed start n capacity later) i x
     carried-next i x here = subst (λ r. IsCarried n r i x) (sym committed-next) (carried-kept n run more i x (by_node (λ k q. Contains q.state.inputs x → IsCarried n run k x) (carried-here x) (λ k. w.carried k x) i here))
 
     front : (k : ℕ) → k ≤ p.state.durable → take k p.state.inputs ++ drop k (take p.state.durable p.state.inputs) ≡ part run j
@@ -176,13 +177,13 @@ module _ (n capacity : ℕ) (events : List (ℕ × Action)) (j : ℕ) (a : Actio
         let actions : a ≡ Release (Sent packet) = ap (λ (s : ℕ × Action). s.1) e in
         subst (λ k. PacketRests k (part run k) packet) nodes (released packet actions)
 
-    packets-next : (i : ℕ) (packet : Packet) → Contains later (i, Release (Sent packet)) → PacketRests i (part (committed n capacity later) i) packet
+    packets-next : (i : ℕ) (packet : Packet) → Contains later (i, Release (Sent packet)) → PacketRests i (part (committed start n capacity later) i) packet
     packets-next i packet here = rw part-next (rests-stay i (part run i) (part more i) packet (elim (Contains-push_cases events (j, a) (i, Release (Sent packet)) here) [
       | inl old ↦ w.packets i packet old
       | inr new ↦ packet-here i packet new
     ]))
 
-    holds-next : Holds n capacity later
+    holds-next : Holds start n capacity later
     holds-next = record {
       sound = by_node (λ k q. Sound k n capacity q) sound-here w.sound;
       parts = parts-next;
@@ -191,16 +192,16 @@ module _ (n capacity : ℕ) (events : List (ℕ × Action)) (j : ℕ) (a : Actio
       packets = packets-next;
     }
 
-holds-first : (n capacity : ℕ) → Holds n capacity []
+holds-first : (start : ℕ → Base) (n capacity : ℕ) → ((i : ℕ) → IsFormatted (start i)) → Holds start n capacity []
 unfolding process part committed joined_after IsLawful IsLegal EachAfter
-holds-first n capacity = record {
-  sound = λ i. sound-new i n capacity;
+holds-first start n capacity formatted = record {
+  sound = λ i. sound-new i n capacity (start i) (formatted i);
   parts = λ i. refl;
   legal = tt;
   carried = λ i x here. Contains-nil x here;
   packets = λ i packet here. Contains-nil (i, Release (Sent packet)) here;
 }
 
-pub schedule_holds : (n capacity : ℕ) (events : List (ℕ × Action)) → IsSchedule n capacity events → Holds n capacity events
-unfolding IsSchedule
-schedule_holds n capacity events l = along (MayHappen n capacity) (Holds n capacity) (λ es e h w. holds-next n capacity es e.0 e.1 h w) [] events l (holds-first n capacity)
+pub schedule_holds : (start : ℕ → Base) (n capacity : ℕ) (events : List (ℕ × Action)) → IsSchedule start n capacity events → Holds start n capacity events
+schedule_holds start n capacity events l =
+    along (MayHappen start n capacity) (Holds start n capacity) (λ es e h w. holds-next start n capacity es e.0 e.1 h w) [] events l.each (holds-first start n capacity l.formatted)

@@ -18,6 +18,7 @@ use Rattle.ring_node.specs.Open.{Open, due, sealed}
 use Rattle.ring_world.specs.Events.{Action, Submit, Land, Crash, IsDelivered}
 use Rattle.ring_world.specs.Ring.{RingView, node_at, held_at, is_launched, launch, landing, landed, asked, due_at, release_of, settled, crashed, stopped, given, handed, is_released}
 use Rattle.ring_world.specs.Shows.{ShowsNode, Shows, IsSealed, held_of, without_due}
+use Rattle.ring_world.specs.Start.{all_fresh}
 use Rattle.ring_world.proofs.Credits.{credited}
 use Rattle.ring_world.proofs.Handed.{handed_stays}
 use Rattle.ring_world.proofs.Nodes.{resting, mine, answered_same, asked_shows, landed_shows, settled_shows, crashed_shows, stopped_shows}
@@ -70,7 +71,7 @@ module _ (w : RingView) (events : List (ℕ × Action)) (nodes : List NodeView) 
     pub may_stop : is_credited v ≡ true
     may_stop =
         let is = node_is in
-        let few = credited w.size w.capacity w.events ties.shows.schedule i low last in
+        let few = credited all_fresh w.size w.capacity w.events ties.shows.schedule i low last in
         let here = subst (λ (a : ℕ × NodeState). credit a.1.inputs ≤ length (sent a.0 (take a.1.durable a.1.inputs))) (λ t. (sym (ap (λ (m : Member). m.node) is.is) t, sym is.state t)) few in
         grind (arith, nat_tests)
 
@@ -86,7 +87,7 @@ module _ (w : RingView) (events : List (ℕ × Action)) (nodes : List NodeView) 
     -- its durable inputs are among its inputs
     in_order : v.durable ≤ length v.inputs
     in_order =
-        let sound = (schedule_holds w.size w.capacity w.events ties.shows.schedule).sound i in
+        let sound = (schedule_holds all_fresh w.size w.capacity w.events ties.shows.schedule).sound i in
         let low = sound.lawful.counts.durable in
         let high = sound.lawful.counts.flying in
         let inputs = ap (λ (s : NodeState). length s.inputs) node_is.state in

@@ -8,6 +8,7 @@ use Rattle.ring_world.specs.Committed.{committed}
 use Rattle.ring_world.specs.Events.{Replied, Sent, Shown, Action, Submit, Launch, LaunchAll, Land, Release, Crash}
 use Rattle.ring_world.specs.Released.{named_by}
 use Rattle.ring_world.specs.Ring.{RingView}
+use Rattle.ring_world.specs.Start.{all_fresh}
 use Rattle.ring_world.specs.declared.announced.Announced.{Announced}
 
 abbrev pub announced_with : ℕ → Option (Key × Candidate) → Option Announced
@@ -18,7 +19,7 @@ announced_with node (Some named) = Some (record { node = node; key = named.0; le
 unfoldable pub announced_by : ℕ × Action → Option Announced
 announced_by (node, Submit q) = None
 announced_by (node, Launch) = None
-announced_by (node, LaunchAll) = None
+announced_by (node, LaunchAll layout) = None
 announced_by (node, Land) = None
 announced_by (node, Release (Replied a)) = announced_with node (named_by a.question a.answer.reply)
 announced_by (node, Release (Sent packet)) = None
@@ -31,4 +32,4 @@ announced events = filter_map announced_by events
 
 -- the candidate stands for the key in what became durable, as far as it was told
 abbrev pub Stands : RingView → Key → Candidate → Type 0
-Stands w key c = Contains (committed w.size w.capacity w.told) (c.node, Stand key c.bid)
+Stands w key c = Contains (committed all_fresh w.size w.capacity w.told) (c.node, Stand key c.bid)

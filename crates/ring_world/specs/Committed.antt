@@ -1,5 +1,6 @@
 -- The inputs of all nodes, in the order in which they became durable.
 use Rattle.std.specs.Prelude.{ℕ, if◌then◌else◌, List, [], map}
+use Rattle.ring_records.specs.declared.base.Base.{Base}
 use Rattle.ring_records.specs.declared.input.Input.{Input}
 use Rattle.ring_records.specs.Lists.{joined_after}
 use Rattle.ring_records.specs.States.{NodeState, flying_in}
@@ -9,15 +10,15 @@ use Rattle.ring_world.specs.Events.{Action, Submit, Launch, LaunchAll, Land, Rel
 unfoldable pub made_durable : NodeState → Action → List Input
 made_durable s (Submit q) = []
 made_durable s Launch = []
-made_durable s LaunchAll = []
+made_durable s (LaunchAll layout) = []
 made_durable s Land = flying_in s
 made_durable s (Release thing) = []
 made_durable s (Crash keeps_flying) = if keeps_flying then flying_in s else []
 
 -- those of the event, each with its node
-unfoldable pub committed_by : ℕ → ℕ → List (ℕ × Action) → ℕ × Action → List (ℕ × Input)
-committed_by n capacity events event = map (λ x. (event.0, x)) (made_durable (state_after n capacity events event.0) event.1)
+unfoldable pub committed_by : (ℕ → Base) → ℕ → ℕ → List (ℕ × Action) → ℕ × Action → List (ℕ × Input)
+committed_by start n capacity events event = map (λ x. (event.0, x)) (made_durable (state_after start n capacity events event.0) event.1)
 
 -- those of all events
-unfoldable pub committed : ℕ → ℕ → List (ℕ × Action) → List (ℕ × Input)
-committed n capacity events = joined_after (committed_by n capacity) [] events
+unfoldable pub committed : (ℕ → Base) → ℕ → ℕ → List (ℕ × Action) → List (ℕ × Input)
+committed start n capacity events = joined_after (committed_by start n capacity) [] events

@@ -6,11 +6,12 @@ use Rattle.ring_records.specs.declared.refusal.Refusal.TheVariants as refused
 use Rattle.ring_records.specs.Admission.{where_so}
 use Rattle.ring_records.specs.Lists.{first, or_else}
 use Rattle.ring_world.specs.Events.{Action, process}
+use Rattle.ring_world.specs.Start.{all_fresh}
 use Rattle.ring_world.specs.State.{State}
 
 -- node i has its first inputs no more
 abbrev pub dropped_at : ℕ → ℕ → List (ℕ × Action) → ℕ → Option Refusal
-dropped_at n capacity events i = where_so (nat_lt 0 (process n capacity events i).dropped) (refused.Dropped i)
+dropped_at n capacity events i = where_so (nat_lt 0 (process all_fresh n capacity events i).dropped) (refused.Dropped i)
 
 -- the lowest node of which that is so
 abbrev pub first_dropped : ℕ → ℕ → List (ℕ × Action) → Option Refusal

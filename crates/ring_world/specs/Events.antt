@@ -1,6 +1,6 @@
 -- What may happen to the nodes of a ring, crashes among it, and where it leads. A schedule is a list of events, oldest
 -- first. An event is a node and what it does.
-use Rattle.std.specs.Prelude.{ℕ, Bool, true, false, ◌≡◌, ◌≤◌, List, [], ◌∷◌, ◌++◌, length, take, Some}
+use Rattle.std.specs.Prelude.{ℕ, Bool, true, false, ◌≡◌, ◌+◌, ◌≤◌, List, [], ◌∷◌, ◌++◌, length, take, Some}
 use Rattle.std.specs.List.{fold, Contains}
 use Rattle.ring_records.specs.declared.base.Base.{Base}
 use Rattle.ring_records.specs.declared.candidate.Candidate.{Candidate}
@@ -10,14 +10,16 @@ use Rattle.ring_records.specs.declared.packet.Packet.{Packet}
 use Rattle.ring_records.specs.declared.packet.Packet.TheVariants.{Carry, Credit}
 use Rattle.ring_records.specs.declared.request.Request.{Request}
 use Rattle.ring_records.specs.declared.request.Request.TheVariants as ask
-use Rattle.ring_records.specs.Admission.{fresh, IsBaseOf}
+use Rattle.ring_records.specs.Admission.{base_of, IsBaseOf}
 use Rattle.ring_records.specs.Answer.{Answered, Answers, PacketRests}
 use Rattle.ring_records.specs.Leader.{leader}
 use Rattle.ring_records.specs.Lists.{EachAfter}
 use Rattle.ring_records.specs.Member.{member}
 use Rattle.ring_records.specs.Place.{before, after}
 use Rattle.ring_records.specs.Ring.{part}
-use Rattle.ring_records.specs.States.{NodeState, is_idle, answered_by, opened, asked, launched, launched_all, landed, left_by}
+use Rattle.ring_records.specs.States.{NodeState, is_idle, answered_by, opened, asked, launched, landed, left_by}
+use Rattle.ring_records.specs.Summary.{summary}
+use Rattle.ring_world.specs.Start.{IsFormatted, IsWritten}
 
 -- ---- what a node hands out
 
@@ -52,8 +54,8 @@ pub data Action : Type 0 where
   Submit : Request → Action
   -- a batch of its inputs begins to fly
   Launch : Action
-  -- all its inputs begin to fly, as a checkpoint
-  LaunchAll : Action
+  -- all its inputs begin to fly, as a checkpoint of this layout
+  LaunchAll : ℕ → Action
   -- what flies is durable
   Land : Action
   -- it hands the thing out
@@ -72,27 +74,32 @@ pub record Process : Type 0 where
 abbrev pub started : NodeState → Process
 started state = record { state = state; kept = []; dropped = state.base.inputs }
 
+-- all its inputs fly, as a checkpoint of this layout
+abbrev pub launched_in : ℕ → ℕ → NodeState → NodeState
+launched_in layout me s = record s { flying = length s.inputs; checkpoint = Some (base_of layout (s.base.epoch + 1) (summary me s.inputs)) }
+
 -- node me of a ring of n, with a capacity, after the action
 unfoldable pub act : ℕ → ℕ → ℕ → Process → Action → Process
 act me n capacity p (Submit q) = record p { state = asked (member me n capacity) p.state q; kept = p.kept ++ answered_by (member me n capacity) p.state q ∷ [] }
 act me n capacity p Launch = record p { state = launched p.state }
-act me n capacity p LaunchAll = record p { state = launched_all me p.state }
+act me n capacity p (LaunchAll layout) = record p { state = launched_in layout me p.state }
 act me n capacity p Land = record p { state = landed p.state }
 act me n capacity p (Release thing) = p
 act me n capacity p (Crash keeps_flying) = started (left_by keeps_flying p.state)
 
--- node i after the events
-unfoldable pub process : ℕ → ℕ → List (ℕ × Action) → ℕ → Process
-process n capacity events i = fold (act i n capacity) (started (opened fresh [])) (part events i)
+-- node i after the events, where the journal of each node began with this base
+unfoldable pub process : (ℕ → Base) → ℕ → ℕ → List (ℕ × Action) → ℕ → Process
+process start n capacity events i = fold (act i n capacity) (started (opened (start i) [])) (part events i)
 
 -- what node i accepted, and how much of it is durable, after the events
-abbrev pub state_after : ℕ → ℕ → List (ℕ × Action) → ℕ → NodeState
-state_after n capacity events i = (process n capacity events i).state
+abbrev pub state_after : (ℕ → Base) → ℕ → ℕ → List (ℕ × Action) → ℕ → NodeState
+state_after start n capacity events i = (process start n capacity events i).state
 
 -- ---- what may happen
 
 -- A node whose device failed has Release and Crash alone until it is opened again. No event has to happen, so the lists
--- in which it keeps to that are among these.
+-- in which it keeps to that are among these; and so are those in which the release that a node runs, and with it the
+-- layout of its checkpoints, changes at a crash alone.
 
 -- What the request brings node i was released to it: a message by the node before it, a credit by the node behind it. A
 -- packet may come again, and in any order.
@@ -120,17 +127,18 @@ IsReleasable i n capacity p (Shown key c) = IsDurable i n capacity p.state (Show
 unfoldable pub May : ℕ → ℕ → List (ℕ × Action) → ℕ → Process → Action → Type 0
 May n capacity events i p (Submit q) = IsDelivered n events i q
 May n capacity events i p Launch = is_idle p.state ≡ true
-May n capacity events i p LaunchAll = is_idle p.state ≡ true
+May n capacity events i p (LaunchAll layout) = (is_idle p.state ≡ true) × IsWritten layout
 May n capacity events i p Land = is_idle p.state ≡ false
 May n capacity events i p (Release thing) = IsReleasable i n capacity p thing
 May n capacity events i p (Crash keeps_flying) = Unit {0}
 
 -- the event may come after these
-pub record MayHappen (n capacity : ℕ) (events : List (ℕ × Action)) (event : ℕ × Action) : Type 0 where
+pub record MayHappen (start : ℕ → Base) (n capacity : ℕ) (events : List (ℕ × Action)) (event : ℕ × Action) : Type 0 where
   pub first : 1 ≤ event.0
   pub last : event.0 ≤ n
-  pub may : May n capacity events event.0 (process n capacity events event.0) event.1
+  pub may : May n capacity events event.0 (process start n capacity events event.0) event.1
 
--- each event may come after those before it
-unfoldable pub IsSchedule : ℕ → ℕ → List (ℕ × Action) → Type 0
-IsSchedule n capacity events = EachAfter (MayHappen n capacity) [] events
+-- Each journal was formatted, by whatever release, and each event may come after those before it.
+pub record IsSchedule (start : ℕ → Base) (n capacity : ℕ) (events : List (ℕ × Action)) : Type 0 where
+  pub formatted : (i : ℕ) → IsFormatted (start i)
+  pub each : EachAfter (MayHappen start n capacity) [] events

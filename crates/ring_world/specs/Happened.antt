@@ -1,4 +1,5 @@
 -- What a stored event says.
+use Rattle.ring_records.specs.Admission.{newest}
 use Rattle.ring_world.specs.Events.{Replied, Sent, Action, Submit, Launch, LaunchAll, Land, Release, Crash}
 use Rattle.ring_world.specs.Events as events
 use Rattle.ring_world.specs.declared.happened.Deed.{Deed}
@@ -13,7 +14,7 @@ thing_of (thing.Sent packet) = Sent packet
 abbrev pub action_of : Deed → Action
 action_of (deed.Submit q) = Submit q
 action_of deed.Launch = Launch
-action_of deed.LaunchAll = LaunchAll
+action_of deed.LaunchAll = LaunchAll newest
 action_of deed.Land = Land
 action_of (deed.Release t) = Release (thing_of t)
 action_of (deed.Crash keeps_flying) = Crash keeps_flying

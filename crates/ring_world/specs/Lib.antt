@@ -10,6 +10,7 @@ pub mod Released
 pub mod Rest
 pub mod Ring
 pub mod Shows
+pub mod Start
 pub mod State
 pub mod Stage
 pub mod Step

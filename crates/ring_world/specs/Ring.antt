@@ -6,6 +6,7 @@ use Rattle.ring_records.specs.declared.packet.Packet.TheVariants.{Carry, Credit}
 use Rattle.ring_records.specs.declared.reply.Reply.{Reply}
 use Rattle.ring_records.specs.declared.request.Request.{Request}
 use Rattle.ring_records.specs.declared.request.Request.TheVariants as ask
+use Rattle.ring_records.specs.Admission.{newest}
 use Rattle.ring_records.specs.Answer.{Answered}
 use Rattle.ring_records.specs.Emission.{sent}
 use Rattle.ring_records.specs.History.{taken}
@@ -18,6 +19,7 @@ use Rattle.ring_node.specs.declared.flight.Flight.{Flight}
 use Rattle.ring_node.specs.declared.flight.Flight.TheVariants.{Batch, Checkpoint}
 use Rattle.ring_node.specs.Open.{Open, serial_of, due, sealed}
 use Rattle.ring_world.specs.Events.{Replied, Sent, Action, Submit, Launch, LaunchAll, Land, Release, Crash, state_after}
+use Rattle.ring_world.specs.Start.{all_fresh}
 
 -- how many nodes it has, numbered from 1, and their capacity; whether each input is made durable as it is accepted;
 -- whether a growth was refused, after which it is of no use; what happened, and as much of that as was told; and the
@@ -43,7 +45,7 @@ IsSameRing w v = (v.size ≡ w.size) × (v.capacity ≡ w.capacity) × (v.eager 
 
 -- node i, as the events leave it
 abbrev pub node_at : RingView → ℕ → NodeState
-node_at w i = state_after w.size w.capacity w.events i
+node_at w i = state_after all_fresh w.size w.capacity w.events i
 
 -- its open tickets
 abbrev pub held_at : RingView → ℕ → List Open
@@ -78,10 +80,10 @@ abbrev pub is_launched : Flight → NodeState → Bool
 is_launched Batch s = nat_lt s.durable (length s.inputs)
 is_launched Checkpoint s = true
 
--- that it does so: with a batch, or with all that it accepted, as a checkpoint
+-- that it does so: with a batch, or with all that it accepted, as a checkpoint of the newest layout
 abbrev pub launch : Flight → Action
 launch Batch = Launch
-launch Checkpoint = LaunchAll
+launch Checkpoint = LaunchAll newest
 
 -- what happens then at node i: it is launched, and lands
 abbrev pub landing : Flight → ℕ → NodeState → List (ℕ × Action)

@@ -5,6 +5,7 @@ use Rattle.ring_records.specs.Member.{member}
 use Rattle.ring_node.specs.Node.{NodeView, new_node, state_of}
 use Rattle.ring_node.specs.Open.{Open, due, sealed}
 use Rattle.ring_world.specs.Events.{Action, process, state_after, IsSchedule}
+use Rattle.ring_world.specs.Start.{all_fresh}
 
 -- the open tickets of a node
 abbrev pub held_of : NodeView → List Open
@@ -26,17 +27,17 @@ new_nodes size capacity (suc k) = new_nodes size capacity k ++ new_node (k + 1) 
 -- the node is the one that the events reach
 pub record ShowsNode (size capacity : ℕ) (events : List (ℕ × Action)) (i : ℕ) (v : NodeView) : Type 0 where
   pub is : v.member ≡ member i size capacity
-  pub state : state_of v ≡ state_after size capacity events i
+  pub state : state_of v ≡ state_after all_fresh size capacity events i
   -- the node keeps the answers of its open tickets
-  pub kept : (t : Open) → Contains v.held t → Contains (process size capacity events i).kept t.kept
+  pub kept : (t : Open) → Contains v.held t → Contains (process all_fresh size capacity events i).kept t.kept
   -- it has as many first inputs no more as its last opening stood for
-  pub dropped : v.dropped ≡ (process size capacity events i).dropped
+  pub dropped : v.dropped ≡ (process all_fresh size capacity events i).dropped
   -- it gave at most a ticket an event
   pub few : v.issued ≤ length events
 
 -- the events may happen, and the nodes are those that they reach
 pub record Shows (size capacity : ℕ) (events : List (ℕ × Action)) (nodes : List NodeView) : Type 0 where
-  pub schedule : IsSchedule size capacity events
+  pub schedule : IsSchedule all_fresh size capacity events
   pub count : length nodes ≡ size
   pub node : (at : ℕ) (other : NodeView) → at < size → ShowsNode size capacity events (at + 1) (slice_index_or nodes at other)
 

@@ -6,6 +6,7 @@ use Rattle.ring_world.specs.Counts.{IsCounted}
 use Rattle.ring_world.specs.Events.{IsSchedule}
 use Rattle.ring_world.specs.Rest.{IsAtRest}
 use Rattle.ring_world.specs.Ring.{RingView, IsSameRing, new_ring}
+use Rattle.ring_world.specs.Start.{all_fresh}
 use Rattle.ring_world.specs.declared.log.Log.{Log}
 
 -- its ring and what happened to it, and how many ticket numbers are taken
@@ -60,6 +61,6 @@ pub record IsWorld (s : State) : Type 0 where
   pub least : 2 ≤ s.ring.size
   pub most : s.ring.size ≤ 16
   pub told : s.ring.events ≡ s.ring.told
-  pub lawful : IsSchedule s.ring.size s.ring.capacity s.ring.told
+  pub lawful : IsSchedule all_fresh s.ring.size s.ring.capacity s.ring.told
   pub counted : IsCounted s.ring s.tickets
   pub rest : IsAtRest s.ring

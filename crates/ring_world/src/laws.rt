@@ -1,22 +1,23 @@
 //! Laws of runs and schedules of a ring: public functions with an empty body, whose contracts say what follows from the
-//! definitions alone. No program calls them.
-ghost use Rattle.std.specs.Prelude.{◌≡◌, ◌≢◌, ◌≤◌, ℕ, List, ◌∷◌, ◌++◌, take, IsTrue, IsSome};
+//! definitions alone. No program calls them. Further laws of schedules are in `fits`.
+ghost use Rattle.std.specs.Prelude.{◌≡◌, ◌≢◌, ◌≤◌, ℕ, true, List, [], ◌∷◌, ◌++◌, take, IsTrue, IsSome};
 ghost use Rattle.std.specs.List.{Contains};
+ghost use Rattle.ring_records.specs.declared.base.Base.{Base};
 ghost use Rattle.ring_records.specs.declared.candidate.Candidate.{Candidate};
 ghost use Rattle.ring_records.specs.declared.input.Input.{Input};
 ghost use Rattle.ring_records.specs.declared.input.Input.TheVariants.{Stand};
 ghost use Rattle.ring_records.specs.declared.key.Key.{Key};
-ghost use Rattle.ring_records.specs.Fitting.{RingFits};
+ghost use Rattle.ring_records.specs.Admission.{fresh, IsBaseOf};
 ghost use Rattle.ring_records.specs.Leader.{leader};
+ghost use Rattle.ring_records.specs.Member.{Member};
 ghost use Rattle.ring_records.specs.Order.{is_less};
 ghost use Rattle.ring_records.specs.Ring.{IsLegal, part};
-ghost use Rattle.ring_records.specs.States.{durable_in};
-ghost use Rattle.ring_audit.specs.Placement.{IsWhole};
+ghost use Rattle.ring_records.specs.States.{NodeState, IsLawfulState, is_idle, opened};
 ghost use Rattle.ring_world.specs.Agreement.{IsKnown, IsRetiredNowhere, IsDrained};
 ghost use Rattle.ring_world.specs.Committed.{committed};
-ghost use Rattle.ring_world.specs.Events.{Thing, Action, Release, state_after, IsSchedule};
-ghost use Rattle.ring_world.specs.Histories.{histories};
+ghost use Rattle.ring_world.specs.Events.{Thing, Action, Release, launched_in, state_after, IsSchedule};
 ghost use Rattle.ring_world.specs.Released.{IsKept, IsAnnounced};
+ghost use Rattle.ring_world.specs.Start.{IsFormatted};
 
 /// In a legal run all leaders that are known for one key, at whatever node and after however many of its inputs, are
 /// one candidate. It stands in the run, and every other candidate that stands there for the key, earlier or later, is
@@ -35,42 +36,40 @@ pub fn decided()
         → IsLegal n run → IsDrained n run → Contains run (i, Stand key bid) → IsRetiredNowhere n run key → 1 ≤ node → node ≤ n → IsSome (leader node (part run node) key) }
 {}
 
+/// Whatever releases wrote a node's journal, its state is lawful and stays so, as `states_stay_lawful` of ring_records
+/// says of this one. As some release formatted it a journal stands for no input, and so for none of whatever history;
+/// a new one of today is such a journal. A checkpoint may be of any layout.
+pub fn releases_stay_lawful()
+    ensures new { IsFormatted fresh }
+    ensures base { (me : ℕ) (base : Base) (h : List Input) → IsFormatted base → IsBaseOf me base h }
+    ensures opened { (m : Member) (base : Base) → IsFormatted base → IsLawfulState m (opened base []) }
+    ensures launched_in { (m : Member) (s : NodeState) (layout : ℕ) → is_idle s ≡ true → IsLawfulState m s → IsLawfulState m (launched_in layout m.node s) }
+{}
+
 /// In every schedule, at every node, what is released rests on inputs that are durable at its release. They are durable
 /// and the same after all later events.
 pub fn prefix()
-    ensures kept { (n capacity : ℕ) (early later : List (ℕ × Action)) (i : ℕ) (thing : Thing)
-        → IsSchedule n capacity (early ++ (i, Release thing) ∷ later)
-        → IsKept i n capacity thing (state_after n capacity early i) (state_after n capacity (early ++ (i, Release thing) ∷ later) i) }
+    ensures kept { (start : ℕ → Base) (n capacity : ℕ) (early later : List (ℕ × Action)) (i : ℕ) (thing : Thing)
+        → IsSchedule start n capacity (early ++ (i, Release thing) ∷ later)
+        → IsKept i n capacity thing (state_after start n capacity early i) (state_after start n capacity (early ++ (i, Release thing) ∷ later) i) }
 {}
 
 /// In every schedule the inputs that became durable, in this order, are a legal run. Its part for a node is that node's
 /// first durable inputs.
 pub fn ring_legality()
-    ensures legal { (n capacity : ℕ) (events : List (ℕ × Action)) → IsSchedule n capacity events → IsLegal n (committed n capacity events) }
-    ensures parts { (n capacity : ℕ) (events : List (ℕ × Action)) (i : ℕ)
-        → IsSchedule n capacity events → part (committed n capacity events) i ≡ take (state_after n capacity events i).durable (state_after n capacity events i).inputs }
-{}
-
-/// In every schedule the durable histories of all nodes are the parts of that run, whole.
-pub fn whole_histories()
-    ensures { (n capacity : ℕ) (events : List (ℕ × Action)) → IsSchedule n capacity events → IsWhole (histories n capacity events) (committed n capacity events) }
-{}
-
-/// In every schedule the durable histories of all nodes fit, and so do those with which they are opened again: for each
-/// link as many messages at most are credited as were taken, what was taken is what was sent, message by message, and no
-/// two nodes know different leaders for a key.
-pub fn ring_fits()
-    ensures fits { (n capacity : ℕ) (events : List (ℕ × Action)) → IsSchedule n capacity events → RingFits n (λ i place. Unit {0}) (λ i. durable_in (state_after n capacity events i)) }
+    ensures legal { (start : ℕ → Base) (n capacity : ℕ) (events : List (ℕ × Action)) → IsSchedule start n capacity events → IsLegal n (committed start n capacity events) }
+    ensures parts { (start : ℕ → Base) (n capacity : ℕ) (events : List (ℕ × Action)) (i : ℕ)
+        → IsSchedule start n capacity events → part (committed start n capacity events) i ≡ take (state_after start n capacity events i).durable (state_after start n capacity events i).inputs }
 {}
 
 /// In every schedule all answers that were ever released for one key name one leader. It stands among the inputs that
 /// became durable, and every other candidate that stands there for the key, earlier or later than the answer, is less.
 pub fn headline()
-    ensures same { (n capacity : ℕ) (events : List (ℕ × Action)) (key : Key) (c d : Candidate) → IsSchedule n capacity events → IsAnnounced events key c → IsAnnounced events key d → c ≡ d }
-    ensures stands { (n capacity : ℕ) (events : List (ℕ × Action)) (key : Key) (c : Candidate)
-        → IsSchedule n capacity events → IsAnnounced events key c → Contains (committed n capacity events) (c.node, Stand key c.bid) }
-    ensures greatest { (n capacity : ℕ) (events : List (ℕ × Action)) (key : Key) (c d : Candidate)
-        → IsSchedule n capacity events → IsAnnounced events key c → Contains (committed n capacity events) (d.node, Stand key d.bid) → d ≢ c → IsTrue (is_less d c) }
+    ensures same { (start : ℕ → Base) (n capacity : ℕ) (events : List (ℕ × Action)) (key : Key) (c d : Candidate) → IsSchedule start n capacity events → IsAnnounced events key c → IsAnnounced events key d → c ≡ d }
+    ensures stands { (start : ℕ → Base) (n capacity : ℕ) (events : List (ℕ × Action)) (key : Key) (c : Candidate)
+        → IsSchedule start n capacity events → IsAnnounced events key c → Contains (committed start n capacity events) (c.node, Stand key c.bid) }
+    ensures greatest { (start : ℕ → Base) (n capacity : ℕ) (events : List (ℕ × Action)) (key : Key) (c d : Candidate)
+        → IsSchedule start n capacity events → IsAnnounced events key c → Contains (committed start n capacity events) (d.node, Stand key d.bid) → d ≢ c → IsTrue (is_less d c) }
 {}
 
 mod worked;

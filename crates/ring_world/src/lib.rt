@@ -7,6 +7,7 @@
 
 mod announced;
 mod event;
+pub mod fits;
 mod happened;
 pub mod laws;
 mod log;

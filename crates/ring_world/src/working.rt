@@ -11,6 +11,7 @@ ghost use Rattle.ring_world.specs.Events.{IsSchedule, process};
 ghost use Rattle.ring_world.specs.Happened.{action_of};
 ghost use Rattle.ring_world.specs.Ring.{launch};
 ghost use Rattle.ring_world.specs.Shows.{new_nodes};
+ghost use Rattle.ring_world.specs.Start.{all_fresh};
 ghost use Rattle.ring_world.specs.State.{is_ring, by_log};
 
 use crate::happened::{Deed, Happened, Thing};
@@ -87,7 +88,7 @@ impl Working {
     /// All that happened is told. It may happen.
     pub fn tell(&mut self)
         ensures next { self.new ≡ record self.old { ring = record self.old.ring { told = self.old.ring.events } } }
-        ensures lawful { IsSchedule self.new.ring.size self.new.ring.capacity self.new.ring.told }
+        ensures lawful { IsSchedule all_fresh self.new.ring.size self.new.ring.capacity self.new.ring.told }
     {
         self.log.told = self.log.events.len();
     }
@@ -97,7 +98,7 @@ impl Working {
         ensures member { result.now.member ≡ member node self.now.ring.size self.now.ring.capacity }
         ensures inputs { result.now.inputs ≡ (node_at self.now.ring node).inputs }
         ensures durable { result.now.durable ≡ (node_at self.now.ring node).durable }
-        ensures dropped { result.now.dropped ≡ (process self.now.ring.size self.now.ring.capacity self.now.ring.events node).dropped }
+        ensures dropped { result.now.dropped ≡ (process all_fresh self.now.ring.size self.now.ring.capacity self.now.ring.events node).dropped }
         ensures state { state_of result.now ≡ node_at self.now.ring node }
     {
         &self.nodes[node.number() as usize - 1]

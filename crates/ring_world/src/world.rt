@@ -13,15 +13,16 @@ ghost use Rattle.ring_world.specs.Committed.{committed};
 ghost use Rattle.ring_world.specs.Events.{IsSchedule, state_after};
 ghost use Rattle.ring_world.specs.Dropped.{withheld};
 ghost use Rattle.ring_world.specs.Histories.{histories};
+ghost use Rattle.ring_world.specs.Start.{all_fresh};
 ghost use Rattle.ring_world.specs.Step.{told, Steps, refusal_of, is_lasting};
 
 use crate::announced::Announced;
 use crate::event::Event;
 use crate::happened::Happened;
-use crate::laws;
 use crate::log::Log;
 use crate::outcome::Outcome;
 use crate::working::Working;
+use crate::{fits, laws};
 use ring_records::{GREATEST_CAPACITY, Input, LEAST_CAPACITY, NodeNo, Refusal, Shown};
 use std::alloc::{AllocError, Global};
 use std::marker::Model;
@@ -133,7 +134,7 @@ impl World {
     /// after a refused growth.
     pub fn announced(&self) -> Result<Vec<Announced>, AllocError>
         ensures list { IfOk result (λ list. list.items ≡ announced self.now.ring.told) }
-        ensures lawful { IsSchedule self.now.ring.size self.now.ring.capacity self.now.ring.told }
+        ensures lawful { IsSchedule all_fresh self.now.ring.size self.now.ring.capacity self.now.ring.told }
         ensures same { IfOk result (λ list. (a b : TheAnnounced) → Contains list.items a → Contains list.items b → a.key ≡ b.key → a.leader ≡ b.leader) }
         ensures stands { IfOk result (λ list. (a : TheAnnounced) → Contains list.items a → Stands self.now.ring a.key a.leader) }
         ensures greatest { IfOk result (λ list. (a : TheAnnounced) (d : TheCandidate) → Contains list.items a → Stands self.now.ring a.key d → d ≢ a.leader → IsTrue (is_less d a.leader)) }
@@ -147,12 +148,12 @@ impl World {
 
     /// What a node shows. Refused as 9 after a refused growth, and as 2 where there is no such node.
     pub fn show(&self, node: NodeNo) -> Result<Shown, Refusal>
-        ensures inputs { IfOk result (λ shown. shown.inputs ≡ length (state_after self.now.ring.size self.now.ring.capacity self.now.ring.events node).inputs) }
-        ensures durable { IfOk result (λ shown. shown.durable ≡ (state_after self.now.ring.size self.now.ring.capacity self.now.ring.events node).durable) }
+        ensures inputs { IfOk result (λ shown. shown.inputs ≡ length (state_after all_fresh self.now.ring.size self.now.ring.capacity self.now.ring.events node).inputs) }
+        ensures durable { IfOk result (λ shown. shown.durable ≡ (state_after all_fresh self.now.ring.size self.now.ring.capacity self.now.ring.events node).durable) }
         ensures eager { IfOk result (λ shown. self.now.ring.eager ≡ true → shown.durable ≡ shown.inputs) }
-        ensures sent { IfOk result (λ shown. shown.sent ≡ length (sent node (state_after self.now.ring.size self.now.ring.capacity self.now.ring.events node).inputs)) }
-        ensures taken { IfOk result (λ shown. shown.taken ≡ length (taken (state_after self.now.ring.size self.now.ring.capacity self.now.ring.events node).inputs)) }
-        ensures credit { IfOk result (λ shown. shown.credit ≡ credit (state_after self.now.ring.size self.now.ring.capacity self.now.ring.events node).inputs) }
+        ensures sent { IfOk result (λ shown. shown.sent ≡ length (sent node (state_after all_fresh self.now.ring.size self.now.ring.capacity self.now.ring.events node).inputs)) }
+        ensures taken { IfOk result (λ shown. shown.taken ≡ length (taken (state_after all_fresh self.now.ring.size self.now.ring.capacity self.now.ring.events node).inputs)) }
+        ensures credit { IfOk result (λ shown. shown.credit ≡ credit (state_after all_fresh self.now.ring.size self.now.ring.capacity self.now.ring.events node).inputs) }
         ensures failed { IfErr result (λ refusal. self.now.ring.failed ≡ true → refusal ≡ Refusal.Failed) }
         ensures outside { IfErr result (λ refusal. self.now.ring.failed ≡ false → (refusal ≡ Refusal.BadNumber) × (self.now.ring.size < node)) }
         ensures shown { OnOk result ((self.now.ring.failed ≡ false) × (node ≤ self.now.ring.size)) }
@@ -171,14 +172,14 @@ impl World {
     /// The durable inputs of each node, in ring order: the parts of one legal run, so an audit finds one. Refused, in
     /// this order: 9 after a refused growth; 27 where a node has its first inputs no more, by the lowest such; 8.
     pub fn histories(&self) -> Result<Vec<Vec<Input>>, Refusal>
-        ensures lists { IfOk result (λ hs. lists hs.items ≡ histories self.now.ring.size self.now.ring.capacity self.now.ring.events) }
+        ensures lists { IfOk result (λ hs. lists hs.items ≡ histories all_fresh self.now.ring.size self.now.ring.capacity self.now.ring.events) }
         ensures shape { IfOk result (λ hs. HasShape (lists hs.items)) }
-        ensures whole { IfOk result (λ hs. IsWhole (lists hs.items) (committed self.now.ring.size self.now.ring.capacity self.now.ring.events)) }
+        ensures whole { IfOk result (λ hs. IsWhole (lists hs.items) (committed all_fresh self.now.ring.size self.now.ring.capacity self.now.ring.events)) }
         ensures given { OnOk result (withheld self.now ≡ None) }
         ensures refused { IfErr result (λ why. (why ≡ Refusal.OutOfMemory) ⊎ (withheld self.now ≡ Some why)) }
         ensures memory_last { IfErr result (λ why. why ≡ Refusal.OutOfMemory → withheld self.now ≡ None) }
     {
-        laws::whole_histories();
+        fits::whole_histories();
         match &self.stage {
             Stage::Failed(_) => Err(Refusal::Failed),
             Stage::Working(ring) => ring.histories(),

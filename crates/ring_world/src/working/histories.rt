@@ -3,6 +3,7 @@ ghost use Rattle.std.specs.Prelude.{◌≡◌, ◌⊎◌, false, None, Some, IfO
 ghost use Rattle.ring_audit.specs.Placement.{lists};
 ghost use Rattle.ring_world.specs.Dropped.{first_dropped};
 ghost use Rattle.ring_world.specs.Histories.{histories};
+ghost use Rattle.ring_world.specs.Start.{all_fresh};
 
 use super::*;
 use ring_records::{Input, Refusal};
@@ -12,7 +13,7 @@ impl Working {
     /// lowest such, and as 8.
     pub fn histories(&self) -> Result<Vec<Vec<Input>>, Refusal>
         ensures works { self.now.ring.failed ≡ false }
-        ensures lists { IfOk result (λ hs. lists hs.items ≡ histories self.now.ring.size self.now.ring.capacity self.now.ring.events) }
+        ensures lists { IfOk result (λ hs. lists hs.items ≡ histories all_fresh self.now.ring.size self.now.ring.capacity self.now.ring.events) }
         ensures given { OnOk result (first_dropped self.now.ring.size self.now.ring.capacity self.now.ring.events ≡ None) }
         ensures refused { IfErr result (λ why. (first_dropped self.now.ring.size self.now.ring.capacity self.now.ring.events ≡ Some why)
             ⊎ ((first_dropped self.now.ring.size self.now.ring.capacity self.now.ring.events ≡ None) × (why ≡ Refusal.OutOfMemory))) }
@@ -46,7 +47,7 @@ impl Working {
     // Every node has its first inputs.
     fn durable_histories(&self) -> Result<Vec<Vec<Input>>, AllocError>
         requires whole { first_dropped self.now.ring.size self.now.ring.capacity self.now.ring.events ≡ None }
-        ensures { IfOk result (λ hs. lists hs.items ≡ histories self.now.ring.size self.now.ring.capacity self.now.ring.events) }
+        ensures { IfOk result (λ hs. lists hs.items ≡ histories all_fresh self.now.ring.size self.now.ring.capacity self.now.ring.events) }
     {
         let mut histories = Vec::new(self.log.alloc);
         let mut node = NodeNo::first();

@@ -4,6 +4,7 @@ ghost use Rattle.ring_records.specs.Message.{is_outside};
 ghost use Rattle.ring_records.specs.Place.{before};
 ghost use Rattle.ring_world.specs.Ring.{node_at, carried, is_earned, is_released};
 ghost use Rattle.ring_world.specs.Stage.{state_of};
+ghost use Rattle.ring_world.specs.Start.{all_fresh};
 ghost use Rattle.ring_world.specs.State.{IsLeft};
 ghost use Rattle.ring_world.specs.Events.{IsSchedule};
 ghost use Rattle.ring_world.specs.Step.{Steps, told, nothing_told, unknown, submitted, flushed, delivered_all, put, stepped, refusal_of, is_lasting};
@@ -20,7 +21,7 @@ impl Working {
     pub fn step(self, event: Event) -> (Stage, Result<Outcome, Refusal>)
         ensures works { self.ring.failed ≡ false }
         ensures steps { IfOk result.1 (λ outcome. Steps self event (told outcome) (state_of result.0)) }
-        ensures lawful { OnOk result.1 (IsSchedule (state_of result.0).ring.size (state_of result.0).ring.capacity (state_of result.0).ring.told) }
+        ensures lawful { OnOk result.1 (IsSchedule all_fresh (state_of result.0).ring.size (state_of result.0).ring.capacity (state_of result.0).ring.told) }
         ensures accepted { OnOk result.1 (refusal_of self event ≡ None) }
         ensures refused { IfErr result.1 (λ refusal. (refusal ≡ Refusal.OutOfMemory) ⊎ ((refusal_of self event ≡ Some refusal) × (state_of result.0 ≡ self))) }
         ensures memory { IfErr result.1 (λ refusal. refusal ≡ Refusal.OutOfMemory → (refusal_of self event ≡ None) × IsLeft (is_lasting self event) self (state_of result.0)) }

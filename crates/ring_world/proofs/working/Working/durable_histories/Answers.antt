@@ -3,6 +3,7 @@ use Rattle.std.proofs.lemmas.List.{map_push}
 use Rattle.ring_records.specs.declared.input.Input.{Input}
 use Rattle.ring_records.specs.States.{durable_in}
 use Rattle.ring_world.specs.Events.{state_after}
+use Rattle.ring_world.specs.Start.{all_fresh}
 use Rattle.ring_world.specs.State.{State}
 use Rattle.ring_world.proofs.Histories.{histories_more, none_dropped}
 use Rattle.ring_world.proofs.Opened.{after_next}
@@ -22,12 +23,12 @@ loop-preserved c =
     let size : c.self.inside.log.size ≡ s.size = ap (λ (t : State). t.ring.size) c.self.view_is in
     let test = c.loop-test.true in
     let node = c.loop.invariant.next (omega arith) in
-    let more : c.in_ok-history.history.items ≡ durable_in (state_after s.size s.capacity s.events (c.loop.counter + 1)) =
-    c.in_ok-history.ensures ∙ ((λ i. take (c.at.ensures.durable i) (c.at.ensures.inputs i)) ∙ ap (λ k. durable_in (state_after s.size s.capacity s.events k)) node) in
+    let more : c.in_ok-history.history.items ≡ durable_in (state_after all_fresh s.size s.capacity s.events (c.loop.counter + 1)) =
+    c.in_ok-history.ensures ∙ ((λ i. take (c.at.ensures.durable i) (c.at.ensures.inputs i)) ∙ ap (λ k. durable_in (state_after all_fresh s.size s.capacity s.events k)) node) in
     record {
       next = λ less. after_next c.self.inside.log.size c.loop.node (c.loop.counter + 1) c.successor-node.result node (omega arith) c.successor-node.ensures.value;
       inside = (let inside = c.successor-node.ensures.inside in omega arith);
       items = ap (map (λ (v : Vec Input Global). v.items)) c.in_ok-push.ensures.items
           ∙ (map_push (λ (v : Vec Input Global). v.items) c.loop.histories.items c.in_ok-history.history
-          ∙ ((λ i. c.loop.invariant.items i ++ more i ∷ []) ∙ sym (histories_more s.size s.capacity s.events c.loop.counter)));
+          ∙ ((λ i. c.loop.invariant.items i ++ more i ∷ []) ∙ sym (histories_more all_fresh s.size s.capacity s.events c.loop.counter)));
     }

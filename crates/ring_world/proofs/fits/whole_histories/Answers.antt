@@ -1,5 +1,5 @@
 use Rattle.ring_world.proofs.Histories.{whole_histories}
-use Rattle.ring_world.proofs.laws.whole_histories.Goals as goal
+use Rattle.ring_world.proofs.fits.whole_histories.Goals as goal
 
 pub returns : goal.returns
 returns c = whole_histories

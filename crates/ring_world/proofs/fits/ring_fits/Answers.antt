@@ -1,5 +1,5 @@
 use Rattle.ring_world.proofs.Promises.{ring_fits}
-use Rattle.ring_world.proofs.laws.ring_fits.Goals as goal
+use Rattle.ring_world.proofs.fits.ring_fits.Goals as goal
 
 pub returns : goal.returns
 returns c = record { fits = ring_fits }
