@@ -1,3 +1,3 @@
-mod Appends
+pub mod Appends
 mod Floats
 mod Names

@@ -2,7 +2,7 @@
 use Rattle.std.specs.Prelude.{ℕ, List, [], ◌++◌, length, codes}
 use Rattle.std.specs.Fmt.{decimal}
 use Rattle.ring_status.specs.declared.answer.Content.{Content}
-use Rattle.ring_status.specs.declared.answer.Content.TheVariants.{Text, Json, Metrics}
+use Rattle.ring_status.specs.declared.answer.Content.TheVariants.{Text, Json, Metrics, Page}
 use Rattle.ring_status.specs.declared.request.Method.{Method}
 use Rattle.ring_status.specs.declared.request.Method.TheVariants.{Get, Head}
 use Rattle.ring_status.specs.declared.status.Status.{Status}
@@ -21,6 +21,7 @@ abbrev pub content_text : Content → List ℕ
 content_text Text = codes "text/plain; charset=utf-8"
 content_text Json = codes "application/json"
 content_text Metrics = codes "text/plain; version=0.0.4; charset=utf-8"
+content_text Page = codes "text/html; charset=utf-8"
 
 -- how long the body is, where the status has one
 abbrev pub length_field : Status → ℕ → List ℕ

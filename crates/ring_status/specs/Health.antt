@@ -1,7 +1,7 @@
--- Whether each node takes what it should.
-use Rattle.std.specs.Prelude.{ℕ, ◌+◌, ◌-◌, ◌*◌, nat_lt, nat_le, Bool, true, false, not, ◌&&◌, ◌||◌, if◌then◌else◌, ◌==◌, List, [], ◌++◌, length, codes}
+-- Whether each node takes what it should, and whether the ring can elect.
+use Rattle.std.specs.Prelude.{ℕ, ◌-◌, ◌*◌, nat_le, Bool, true, false, not, ◌&&◌, ◌||◌, if◌then◌else◌, ◌==◌, List, [], ◌++◌, length, codes}
 use Rattle.std.specs.Fmt.{decimal}
-use Rattle.std.specs.List.{flat_map, list_all}
+use Rattle.std.specs.List.{flat_map, list_all, list_any}
 use Rattle.ring_records.specs.declared.limits.TheConstants.{STANDS}
 use Rattle.ring_status.specs.declared.holding.Holding.{Holding}
 use Rattle.ring_status.specs.declared.holding.TheConstants.{HANG_SECONDS}
@@ -55,5 +55,80 @@ fault_text node = line_for node.place.node node.condition
 abbrev pub doorless_text : ℕ → List ℕ
 doorless_text node = codes "node " ++ decimal node ++ codes " has no door free\n"
 
+abbrev pub has_failed : NodeStatus → Bool
+has_failed node = of node.condition where
+  of : Condition → Bool
+  of Well = false
+  of Limit = false
+  of Full = false
+  of Hangs = false
+  of Failed = true
+
+abbrev pub hangs : NodeStatus → Bool
+hangs node = of node.condition where
+  of : Condition → Bool
+  of Well = false
+  of Limit = false
+  of Full = false
+  of Hangs = true
+  of Failed = false
+
+abbrev pub is_full : NodeStatus → Bool
+is_full node = of node.condition where
+  of : Condition → Bool
+  of Well = false
+  of Limit = false
+  of Full = true
+  of Hangs = false
+  of Failed = false
+
+abbrev pub is_at_limit : NodeStatus → Bool
+is_at_limit node = of node.condition where
+  of : Condition → Bool
+  of Well = false
+  of Limit = true
+  of Full = false
+  of Hangs = false
+  of Failed = false
+
+-- what helps against the worst of what is told
+unfoldable pub help_for : List NodeStatus → List ℕ
+help_for nodes =
+    if list_any has_failed nodes then codes "see the disk, and start ringd again"
+    else if list_any hangs nodes then codes "see the disk"
+    else if list_any is_full nodes then codes "retire old terms"
+    else if list_any is_at_limit nodes then codes "retire old terms, or stand at other nodes"
+    else codes "give more doors, or less idle time"
+
+abbrev pub help_line : List NodeStatus → List ℕ
+help_line nodes = codes "help: " ++ help_for nodes ++ codes "\n"
+
 unfoldable pub health_body : List NodeStatus → List ℕ → List ℕ
-health_body nodes doorless = if all_well nodes && (length doorless == 0) then codes "well\n" else flat_map fault_text nodes ++ flat_map doorless_text doorless
+health_body nodes doorless = if all_well nodes && (length doorless == 0) then codes "well\n" else flat_map fault_text nodes ++ flat_map doorless_text doorless ++ help_line nodes
+
+-- ---- whether the ring can elect
+
+-- a message passes the node
+abbrev pub carries : NodeStatus → Bool
+carries node = of node.condition where
+  of : Condition → Bool
+  of Well = true
+  of Limit = true
+  of Full = false
+  of Hangs = false
+  of Failed = false
+
+-- a message passes each node, and a node takes Stands
+unfoldable pub can_elect : List NodeStatus → Bool
+can_elect nodes = list_all carries nodes && list_any is_well nodes
+
+-- the line of a node that no message passes
+abbrev pub blocked_text : NodeStatus → List ℕ
+blocked_text node = if carries node then [] else fault_text node
+
+-- those that no message passes, or all where none takes Stands
+unfoldable pub not_ready : List NodeStatus → List ℕ
+not_ready nodes = if list_any is_well nodes then flat_map blocked_text nodes else flat_map fault_text nodes
+
+unfoldable pub ready_body : List NodeStatus → List ℕ
+ready_body nodes = if can_elect nodes then codes "ready\n" else not_ready nodes

@@ -4,5 +4,6 @@ pub mod Counts
 pub mod Data
 pub mod Health
 pub mod Metrics
+pub mod Process
 pub mod Requests
 pub mod Targets

@@ -1,10 +1,12 @@
 -- The text for Prometheus.
-use Rattle.std.specs.Prelude.{ℕ, if◌then◌else◌, List, [], ◌∷◌, ◌++◌, codes}
+use Rattle.std.specs.Prelude.{ℕ, if◌then◌else◌, List, [], ◌∷◌, ◌++◌, codes, Option, Some, None}
 use Rattle.std.specs.Fmt.{decimal}
 use Rattle.std.specs.List.{flat_map}
+use Rattle.ring_records.specs.declared.limits.TheConstants.{LAYOUT}
 use Rattle.ring_status.specs.Bounds.{seconds_text}
 use Rattle.ring_status.specs.declared.metric.Metric.{Metric}
 use Rattle.ring_status.specs.declared.metric.Metric.TheVariants as of
+use Rattle.ring_status.specs.declared.process.Process.{Process}
 use Rattle.ring_status.specs.declared.values.CommitTimes.{CommitTimes}
 use Rattle.ring_status.specs.declared.values.Condition.{Condition}
 use Rattle.ring_status.specs.declared.values.Condition.TheVariants.{Well, Limit, Full, Hangs, Failed}
@@ -240,15 +242,53 @@ started_family started =
     head_of (codes "cinoweta_start_time_seconds") (codes "When the program was started, in Unix time.") (codes "gauge")
     ++ codes "cinoweta_start_time_seconds" ++ codes " " ++ decimal started ++ codes "\n"
 
-unfoldable pub version_family : List ℕ → List ℕ
-version_family version =
-    head_of (codes "cinoweta_build_info") (codes "1, with the version of the program.") (codes "gauge")
-    ++ codes "cinoweta_build_info" ++ codes "{version=\"" ++ version ++ codes "\"} 1\n"
+unfoldable pub version_start : List ℕ → List ℕ
+version_start version =
+    head_of (codes "cinoweta_build_info") (codes "1, with the version of the program, and the layout that it writes.") (codes "gauge")
+    ++ codes "cinoweta_build_info" ++ codes "{version=\"" ++ version ++ codes "\""
+
+unfoldable pub layout_label : ℕ → List ℕ
+layout_label layout = codes ",layout=\"" ++ decimal layout ++ codes "\"} 1\n"
+
+abbrev pub version_family : List ℕ → ℕ → List ℕ
+version_family version layout = version_start version ++ layout_label layout
+
+abbrev pub value_line : List ℕ → ℕ → List ℕ
+value_line name value = name ++ codes " " ++ decimal value ++ codes "\n"
+
+abbrev pub gauge_of : List ℕ → List ℕ → ℕ → List ℕ
+gauge_of name help value = head_of name help (codes "gauge") ++ value_line name value
+
+-- a number of the process, where there is one
+abbrev pub process_family : List ℕ → List ℕ → Option ℕ → List ℕ
+process_family name help None = []
+process_family name help (Some value) = gauge_of name help value
+
+-- what all programs tell so: when it was started, its memory and its descriptors
+unfoldable pub begun_family : ℕ → List ℕ
+begun_family started =
+    process_family (codes "process_start_time_seconds") (codes "Start time of the process since unix epoch in seconds.") (Some started)
+
+unfoldable pub resident_family : Process → List ℕ
+resident_family process =
+    process_family (codes "process_resident_memory_bytes") (codes "Resident memory size in bytes.") process.resident_bytes
+
+unfoldable pub open_family : Process → List ℕ
+open_family process = process_family (codes "process_open_fds") (codes "Number of open file descriptors.") process.open_fds
+
+unfoldable pub max_family : Process → List ℕ
+max_family process = process_family (codes "process_max_fds") (codes "Maximum number of open file descriptors.") process.max_fds
+
+abbrev pub process_families : ℕ → Process → List ℕ
+process_families started process =
+    begun_family started ++ resident_family process ++ open_family process ++ max_family process
 
 -- what is told of the program
-abbrev pub program_families : List ℕ → ℕ → List ℕ
-program_families version started = version_family version ++ started_family started
+abbrev pub program_families : List ℕ → ℕ → Process → List ℕ
+program_families version started process =
+    version_family version LAYOUT ++ started_family started ++ process_families started process
 
--- the version, when the ring was started, what is measured, how long commits took, and the refusals
-unfoldable pub metrics_body : List ℕ → ℕ → List NodeStatus → List ℕ
-metrics_body version started nodes = program_families version started ++ flat_map (family_of nodes) metrics ++ commits_family nodes ++ refusals_family nodes
+-- the version, when the ring was started, the process, what is measured, how long commits took, and the refusals
+unfoldable pub metrics_body : List ℕ → ℕ → Process → List NodeStatus → List ℕ
+metrics_body version started process nodes =
+    program_families version started process ++ flat_map (family_of nodes) metrics ++ commits_family nodes ++ refusals_family nodes

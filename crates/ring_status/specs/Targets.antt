@@ -1,5 +1,5 @@
 -- What a target asks, by a look at its bytes.
-use Rattle.std.specs.Prelude.{ℕ, ◌==◌, ◌+◌, if◌then◌else◌, List, length, take, drop, position, codes, Option, Some, None, option_and_then, ok_or, Result, Ok, Err}
+use Rattle.std.specs.Prelude.{ℕ, ◌==◌, ◌+◌, if◌then◌else◌, List, take, drop, position, codes, Option, Some, None, option_and_then, ok_or, Result, Ok, Err}
 use Rattle.std.specs.Str.{bytes_eq}
 use Rattle.line_words.specs.Forms.{name_word, number_word}
 use Rattle.line_words.specs.Words.{behind}
@@ -107,18 +107,29 @@ asked_of group (Some query) = leader_by group (cut_at 38 query)
 abbrev pub leader_of : List ℕ → Option (List ℕ) → Option Target
 leader_of name query = option_and_then (λ group. asked_of group query) (group_word name)
 
-abbrev pub group_page : Option (List ℕ) → Option (List ℕ) → Result Target Status
-group_page None query = Err status.NotFound
-group_page (Some name) query = ok_or (leader_of name query) status.BadRequest
+-- the page of a group for people
+abbrev pub page_for : List ℕ → Option Target
+page_for name = option_and_then (λ group. Some (ask.Group group)) (group_word name)
+
+abbrev pub leader_page : Option (List ℕ) → Option (List ℕ) → Result Target Status
+leader_page None query = Err status.NotFound
+leader_page (Some name) query = ok_or (leader_of name query) status.BadRequest
+
+-- the page of a group where a name stands behind `/groups/`, and else what a leader's page is
+abbrev pub group_page : Option (List ℕ) → Result Target Status → Result Target Status
+group_page None otherwise = otherwise
+group_page (Some name) otherwise = ok_or (page_for name) status.BadRequest
 
 abbrev pub at_path : List ℕ × Option (List ℕ) → Result Target Status
 at_path (path, query) =
     if bytes_eq path (codes "/live") then Ok ask.Live
+    else if bytes_eq path (codes "/ready") then Ok ask.Ready
     else if bytes_eq path (codes "/health") then Ok ask.Health
     else if bytes_eq path (codes "/status") then Ok ask.Status
     else if bytes_eq path (codes "/metrics") then Ok ask.Metrics
     else if bytes_eq path (codes "/leaders") then ok_or (page_of query) status.BadRequest
-    else group_page (behind (codes "/leaders/") path) query
+    else if bytes_eq path (codes "/") then Ok ask.Page
+    else group_page (behind (codes "/groups/") path) (leader_page (behind (codes "/leaders/") path) query)
 
 -- The path of a target ends at its first `?`, behind which its query stands.
 unfoldable pub target_of : List ℕ → Result Target Status

@@ -15,6 +15,8 @@ pub enum Content {
     Json,
     /// The text format of Prometheus.
     Metrics,
+    /// HTML.
+    Page,
 }
 
 impl Content {
@@ -26,6 +28,7 @@ impl Content {
             Content::Text => "text/plain; charset=utf-8",
             Content::Json => "application/json",
             Content::Metrics => "text/plain; version=0.0.4; charset=utf-8",
+            Content::Page => "text/html; charset=utf-8",
         }
     }
 }

@@ -12,7 +12,8 @@ use serde_json::{Value, json};
 use std::alloc::{AllocError, Global};
 use std::str;
 
-fn condition_text(condition: Condition) -> &'static str
+/// The condition in a word.
+pub fn condition_text(condition: Condition) -> &'static str
     ensures { result.now ≡ condition_text condition }
 {
     match condition {
@@ -153,8 +154,8 @@ fn ring_json(alloc: Global, ring: &RingStatus<'_>) -> Result<Value, AllocError>
 }
 
 #[tactic(auto, using(crate::proofs::Names::name_is_text))]
-// The name as text.
-fn name_of(group: &GroupName) -> &str
+/// The name of the group as text.
+pub fn name_of(group: &GroupName) -> &str
     ensures { result.now ≡ group.now }
 {
     match str::from_utf8(group.as_bytes()) {

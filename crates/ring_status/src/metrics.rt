@@ -1,11 +1,13 @@
 // The text for Prometheus.
 ghost use Rattle.std.specs.Prelude.{◌≡◌, ◌++◌, IfOk, OnOk, string_bytes};
 ghost use Rattle.std.specs.List.{flat_map};
-ghost use Rattle.ring_status.specs.Metrics.{bucket, commit_count, commit_samples, commit_sum, commit_totals, commits_family, commits_head, family_of, head_of, metrics_body, program_families, refusal_sample, refusal_samples, refusals_family, refusals_head, sample, started_family, version_family, within_sample};
+ghost use Rattle.ring_status.specs.Metrics.{begun_family, gauge_of, max_family, open_family, process_families, process_family, program_families, resident_family, value_line};
+ghost use Rattle.ring_status.specs.Metrics.{bucket, commit_count, commit_samples, commit_sum, commit_totals, commits_family, commits_head, family_of, head_of, metrics_body, refusal_sample, refusal_samples, refusals_family, refusals_head, sample, layout_label, started_family, version_family, version_start, within_sample};
 
 use crate::metric::Metric;
+use crate::process::Process;
 use crate::values::{CommitTimes, NodeStatus, RefusalCount, RingStatus, WithinCount};
-use ring_records::NodeNo;
+use ring_records::{LAYOUT, NodeNo};
 use std::alloc::{AllocError, Global};
 
 fn print_head(out: &mut String, name: &str, help: &str, kind: &str) -> Result<(), AllocError>
@@ -100,24 +102,130 @@ fn print_started(out: &mut String, started: u64) -> Result<(), AllocError>
     )
 }
 
-#[tactic(auto, unfolding(crate::specs::Metrics::version_family))]
-fn print_version(out: &mut String, version: &str) -> Result<(), AllocError>
-    ensures { OnOk result (string_bytes out.new ≡ string_bytes out.old ++ version_family version.now) }
+#[tactic(auto, unfolding(crate::specs::Metrics::version_start))]
+fn print_version_start(out: &mut String, version: &str) -> Result<(), AllocError>
+    ensures { OnOk result (string_bytes out.new ≡ string_bytes out.old ++ version_start version.now) }
 {
     let name = "cinoweta_build_info";
-    let help = "1, with the version of the program.";
-    writeln!(
+    let help = "1, with the version of the program, and the layout that it writes.";
+    write!(
         out,
-        "# HELP {name} {help}\n# TYPE {name} gauge\n{name}{{version=\"{version}\"}} 1"
+        "# HELP {name} {help}\n# TYPE {name} gauge\n{name}{{version=\"{version}\""
     )
 }
 
-#[tactic(auto, using(crate::proofs::Appends::two))]
-fn print_program(out: &mut String, ring: &RingStatus<'_>) -> Result<(), AllocError>
-    ensures { OnOk result (string_bytes out.new ≡ string_bytes out.old ++ program_families (ring.now.version).now ring.now.started) }
+#[tactic(auto, unfolding(crate::specs::Metrics::layout_label))]
+fn print_layout(out: &mut String, layout: u8) -> Result<(), AllocError>
+    ensures { OnOk result (string_bytes out.new ≡ string_bytes out.old ++ layout_label layout) }
 {
-    print_version(out, ring.version)?;
-    print_started(out, ring.started)
+    writeln!(out, ",layout=\"{layout}\"}} 1")
+}
+
+#[tactic(auto, using(crate::proofs::Appends::two))]
+fn print_version(out: &mut String, version: &str, layout: u8) -> Result<(), AllocError>
+    ensures { OnOk result (string_bytes out.new ≡ string_bytes out.old ++ version_family version.now layout) }
+{
+    print_version_start(out, version)?;
+    print_layout(out, layout)
+}
+
+fn print_value(out: &mut String, name: &str, value: u64) -> Result<(), AllocError>
+    ensures { OnOk result (string_bytes out.new ≡ string_bytes out.old ++ value_line name.now value) }
+{
+    writeln!(out, "{name} {value}")
+}
+
+#[tactic(auto, using(crate::proofs::Appends::two))]
+fn print_gauge(out: &mut String, name: &str, help: &str, value: u64) -> Result<(), AllocError>
+    ensures { OnOk result (string_bytes out.new ≡ string_bytes out.old ++ gauge_of name.now help.now value) }
+{
+    print_head(out, name, help, "gauge")?;
+    print_value(out, name, value)
+}
+
+fn print_process_family(
+    out: &mut String,
+    name: &str,
+    help: &str,
+    value: Option<u64>,
+) -> Result<(), AllocError>
+    ensures { OnOk result (string_bytes out.new ≡ string_bytes out.old ++ process_family name.now help.now value) }
+{
+    match value {
+        None => Ok(()),
+        Some(value) => print_gauge(out, name, help, value),
+    }
+}
+
+#[tactic(auto, unfolding(crate::specs::Metrics::begun_family))]
+fn print_begun(out: &mut String, started: u64) -> Result<(), AllocError>
+    ensures { OnOk result (string_bytes out.new ≡ string_bytes out.old ++ begun_family started) }
+{
+    print_process_family(
+        out,
+        "process_start_time_seconds",
+        "Start time of the process since unix epoch in seconds.",
+        Some(started),
+    )
+}
+
+#[tactic(auto, unfolding(crate::specs::Metrics::resident_family))]
+fn print_resident(out: &mut String, process: &Process) -> Result<(), AllocError>
+    ensures { OnOk result (string_bytes out.new ≡ string_bytes out.old ++ resident_family process.now) }
+{
+    print_process_family(
+        out,
+        "process_resident_memory_bytes",
+        "Resident memory size in bytes.",
+        process.resident_bytes,
+    )
+}
+
+#[tactic(auto, unfolding(crate::specs::Metrics::open_family))]
+fn print_open_fds(out: &mut String, process: &Process) -> Result<(), AllocError>
+    ensures { OnOk result (string_bytes out.new ≡ string_bytes out.old ++ open_family process.now) }
+{
+    print_process_family(
+        out,
+        "process_open_fds",
+        "Number of open file descriptors.",
+        process.open_fds,
+    )
+}
+
+#[tactic(auto, unfolding(crate::specs::Metrics::max_family))]
+fn print_max_fds(out: &mut String, process: &Process) -> Result<(), AllocError>
+    ensures { OnOk result (string_bytes out.new ≡ string_bytes out.old ++ max_family process.now) }
+{
+    print_process_family(
+        out,
+        "process_max_fds",
+        "Maximum number of open file descriptors.",
+        process.max_fds,
+    )
+}
+
+#[tactic(auto, using(crate::proofs::Appends::four))]
+fn print_process(out: &mut String, started: u64, process: &Process) -> Result<(), AllocError>
+    ensures { OnOk result (string_bytes out.new ≡ string_bytes out.old ++ process_families started process.now) }
+{
+    print_begun(out, started)?;
+    print_resident(out, process)?;
+    print_open_fds(out, process)?;
+    print_max_fds(out, process)
+}
+
+#[tactic(auto, using(crate::proofs::Appends::three))]
+fn print_program(
+    out: &mut String,
+    ring: &RingStatus<'_>,
+    process: &Process,
+) -> Result<(), AllocError>
+    ensures { OnOk result (string_bytes out.new ≡ string_bytes out.old ++ program_families (ring.now.version).now ring.now.started process.now) }
+{
+    print_version(out, ring.version, LAYOUT)?;
+    print_started(out, ring.started)?;
+    print_process(out, ring.started, process)
 }
 
 #[tactic(auto, unfolding(crate::specs::Metrics::refusals_head))]
@@ -227,20 +335,24 @@ fn print_commits_family(out: &mut String, nodes: &[NodeStatus]) -> Result<(), Al
 }
 
 #[tactic(auto, using(crate::proofs::Appends::four), unfolding(crate::specs::Metrics::metrics_body))]
-fn print_all(out: &mut String, ring: &RingStatus<'_>) -> Result<(), AllocError>
-    ensures { OnOk result (string_bytes out.new ≡ string_bytes out.old ++ metrics_body (ring.now.version).now ring.now.started ring.now.nodes.now) }
+fn print_all(out: &mut String, ring: &RingStatus<'_>, process: &Process) -> Result<(), AllocError>
+    ensures { OnOk result (string_bytes out.new ≡ string_bytes out.old ++ metrics_body (ring.now.version).now ring.now.started process.now ring.now.nodes.now) }
 {
-    print_program(out, ring)?;
+    print_program(out, ring, process)?;
     print_families(out, Metric::all(), ring.nodes)?;
     print_commits_family(out, ring.nodes)?;
     print_refusals_family(out, ring.nodes)
 }
 
-/// The numbers of a ring in the text format of Prometheus, version 0.0.4. Refused for want of memory alone.
-pub fn metrics_text(alloc: Global, ring: &RingStatus<'_>) -> Result<String, AllocError>
-    ensures { IfOk result (λ text. string_bytes text ≡ metrics_body (ring.now.version).now ring.now.started ring.now.nodes.now) }
+/// The numbers of a ring, and of its process, in the text format of Prometheus, version 0.0.4. Refused for want of memory alone.
+pub fn metrics_text(
+    alloc: Global,
+    ring: &RingStatus<'_>,
+    process: &Process,
+) -> Result<String, AllocError>
+    ensures { IfOk result (λ text. string_bytes text ≡ metrics_body (ring.now.version).now ring.now.started process.now ring.now.nodes.now) }
 {
     let mut out = String::new(alloc);
-    print_all(&mut out, ring)?;
+    print_all(&mut out, ring, process)?;
     Ok(out)
 }

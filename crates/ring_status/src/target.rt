@@ -1,6 +1,6 @@
 // What a target asks.
 ghost use Rattle.std.specs.Prelude.{◌≡◌, ◌==◌, ok_or, option_map, position};
-ghost use Rattle.ring_status.specs.Targets.{above_in, after_in, asked_of, cut_at, group_word, held_in, leader_of, next_by, next_of, node_in, node_word};
+ghost use Rattle.ring_status.specs.Targets.{above_in, after_in, asked_of, cut_at, group_word, held_in, leader_of, next_by, next_of, node_in, node_word, page_for};
 ghost use Rattle.ring_status.specs.Targets.{number_in, page_by_one, page_by_two, page_of, target_of, wait_in, waited};
 
 use crate::status::Status;
@@ -10,8 +10,14 @@ use ring_records::{GroupName, NodeNo};
 /// What is asked.
 #[derive(Clone, Copy, Debug, PartialEq, Eq)]
 pub enum Target {
+    /// A page of the ring for people.
+    Page,
+    /// A page of a group for people, by the board of node 1.
+    Group(GroupName),
     /// Whether the process answers.
     Live,
+    /// Whether the ring can elect.
+    Ready,
     /// Whether each node takes Stands and messages.
     Health,
     /// The ring and its nodes, as JSON.
@@ -39,7 +45,7 @@ fn place_of(text: &[u8], byte: u8) -> Option<usize>
 
 #[tactic(auto, unfolding(crate::specs::Targets::cut_at))]
 // What stands before the byte, and what stands behind it where it is there.
-fn cut_at(text: &[u8], byte: u8) -> (&[u8], Option<&[u8]>)
+pub(crate) fn cut_at(text: &[u8], byte: u8) -> (&[u8], Option<&[u8]>)
     ensures before { result.0.now ≡ (cut_at byte text.now).0 }
     ensures behind { option_map (λ rest. rest.now) result.1 ≡ (cut_at byte text.now).1 }
 {
@@ -185,6 +191,13 @@ fn leader_of(name: &[u8], query: Option<&[u8]>) -> Option<Target>
     asked_of(group_word(name)?, query)
 }
 
+// The page of the group of this name.
+fn group_page(name: &[u8]) -> Option<Target>
+    ensures { result ≡ page_for name.now }
+{
+    Some(Target::Group(group_word(name)?))
+}
+
 // A page, where there is one.
 fn or_bad(page: Option<Target>) -> Result<Target, Status>
     ensures { result ≡ ok_or page Status.BadRequest }
@@ -196,15 +209,19 @@ fn or_bad(page: Option<Target>) -> Result<Target, Status>
 }
 
 #[tactic(auto, unfolding(crate::specs::Targets::target_of))]
-/// What a target asks: `/live`, `/health`, `/status` and `/metrics`, whose query is not read; `/leaders`, with `node=I` or
-/// `after=GROUP` or both, in this order and parted by `&`; `/leaders/GROUP`, with `node=I` or nothing, and behind either
-/// with `above=T&wait=S` or `held=T&wait=S`. Node 1 is asked where none is named. Refused as 404 where there is no such page, and else as 400 by its name or its query.
+/// What a target asks: `/live`, `/ready`, `/health`, `/status`, `/metrics`, `/` and `/groups/GROUP`, whose query is not read;
+/// `/leaders`, with `node=I` or `after=GROUP` or both, in this order and parted by `&`; `/leaders/GROUP`, with `node=I` or
+/// nothing, and behind either with `above=T&wait=S` or `held=T&wait=S`. Node 1 is asked where none is named. Refused as 404 where
+/// there is no such page, and else as 400 by its name or its query.
 pub fn read_target(target: &[u8]) -> Result<Target, Status>
     ensures { result ≡ target_of target.now }
 {
     let (path, query) = cut_at(target, b'?');
     if path == b"/live".as_slice() {
         return Ok(Target::Live);
+    }
+    if path == b"/ready".as_slice() {
+        return Ok(Target::Ready);
     }
     if path == b"/health".as_slice() {
         return Ok(Target::Health);
@@ -217,6 +234,12 @@ pub fn read_target(target: &[u8]) -> Result<Target, Status>
     }
     if path == b"/leaders".as_slice() {
         return or_bad(page_of(query));
+    }
+    if path == b"/".as_slice() {
+        return Ok(Target::Page);
+    }
+    if let Some(name) = behind(path, b"/groups/") {
+        return or_bad(group_page(name));
     }
     match behind(path, b"/leaders/") {
         Some(name) => or_bad(leader_of(name, query)),

@@ -7,6 +7,8 @@
 mod exchange;
 mod lobby;
 mod pages;
+mod people;
+mod process;
 mod reception;
 mod roll;
 mod status_port;

@@ -1,4 +1,6 @@
 //! What is told for each target.
+use crate::people::{group_for_people, ring_for_people};
+use crate::process::process;
 use crate::reception::{Page, Reception, home_of};
 use crate::roll::Presence;
 use crate::status_port::Facts;
@@ -6,8 +8,8 @@ use client_stream::Deadline;
 use door_rules::is_told;
 use ring_records::{Decision, GroupName, NodeNo};
 use ring_status::{
-    Content, Holder, NodeStatus, RingStatus, Status, Target, are_well, health_text, latest_json,
-    leaders_json, metrics_text, status_json,
+    Content, Holder, NodeStatus, RingStatus, Status, Target, are_well, can_elect, health_text,
+    latest_json, leaders_json, metrics_text, ready_text, status_json,
 };
 use std::alloc::{AllocError, Global};
 use std::sync::Wait;
@@ -30,7 +32,7 @@ fn had(text: Result<String, AllocError>) -> Result<String, Status> {
 }
 
 /// What is told of each node, in their order. Refused where one of them does not answer.
-fn statuses<R: Wait + Clock>(
+pub(crate) fn statuses<R: Wait + Clock>(
     rt: &R,
     alloc: Global,
     reception: &Reception,
@@ -55,7 +57,7 @@ fn statuses<R: Wait + Clock>(
 }
 
 /// The nodes of which no door was free for a while, in their order. Refused where one of them does not answer.
-fn doorless<R: Wait + Clock>(
+pub(crate) fn doorless<R: Wait + Clock>(
     rt: &R,
     alloc: Global,
     reception: &Reception,
@@ -77,6 +79,19 @@ fn doorless<R: Wait + Clock>(
     Ok(without)
 }
 
+fn ready(alloc: Global, nodes: &[NodeStatus]) -> Result<Body, Status> {
+    let status = if can_elect(nodes) {
+        Status::Found
+    } else {
+        Status::Unavailable
+    };
+    Ok(Body {
+        status,
+        content: Content::Text,
+        text: had(ready_text(alloc, nodes))?,
+    })
+}
+
 fn health(alloc: Global, nodes: &[NodeStatus], doorless: &[NodeNo]) -> Result<Body, Status> {
     let status = if are_well(nodes) && doorless.is_empty() {
         Status::Found
@@ -90,7 +105,11 @@ fn health(alloc: Global, nodes: &[NodeStatus], doorless: &[NodeNo]) -> Result<Bo
     })
 }
 
-fn ring<'a>(facts: &'a Facts, nodes: &'a [NodeStatus], doorless: &'a [NodeNo]) -> RingStatus<'a> {
+pub(crate) fn ring<'a>(
+    facts: &'a Facts,
+    nodes: &'a [NodeStatus],
+    doorless: &'a [NodeNo],
+) -> RingStatus<'a> {
     RingStatus {
         version: facts.version,
         dir: facts.dir.as_str(),
@@ -102,7 +121,7 @@ fn ring<'a>(facts: &'a Facts, nodes: &'a [NodeStatus], doorless: &'a [NodeNo]) -
     }
 }
 
-fn found(content: Content, text: Result<String, AllocError>) -> Result<Body, Status> {
+pub(crate) fn found(content: Content, text: Result<String, AllocError>) -> Result<Body, Status> {
     Ok(Body {
         status: Status::Found,
         content,
@@ -141,6 +160,15 @@ fn leader<R: Wait>(
     }
 }
 
+/// What is known of who leads, as it is told.
+pub(crate) fn known(presence: &Presence) -> Holder<'_> {
+    Holder {
+        present: presence.present,
+        resigned: presence.resigned,
+        text: presence.text.as_str(),
+    }
+}
+
 /// This leader by the node's board, of whom this is known.
 fn holder(
     alloc: Global,
@@ -148,12 +176,10 @@ fn holder(
     lead: &Decision,
     presence: &Presence,
 ) -> Result<Body, Status> {
-    let known = Holder {
-        present: presence.present,
-        resigned: presence.resigned,
-        text: presence.text.as_str(),
-    };
-    found(Content::Json, latest_json(alloc, node, lead, &known))
+    found(
+        Content::Json,
+        latest_json(alloc, node, lead, &known(presence)),
+    )
 }
 
 /// The latest leader of the group.
@@ -261,38 +287,15 @@ fn has(reception: &Reception, node: NodeNo) -> bool {
     usize::from(node.number()) <= reception.nodes()
 }
 
-/// What is told for the target. Refused as 404 where the ring has no such node or the group no leader, and as 503 where a
-/// node does not answer in time, or memory is wanting.
-pub(crate) fn body_of<R: Wait + Clock>(
+/// What is told of leaders for the target. Refused as `body_of` is.
+fn body_of_leaders<R: Wait + Clock>(
     rt: &R,
     alloc: Global,
-    facts: &Facts,
     reception: &Reception,
     target: Target,
     deadline: Deadline,
 ) -> Result<Body, Status> {
     match target {
-        Target::Live => found(Content::Text, String::from_str(alloc, LIVE)),
-        Target::Health => {
-            let nodes = statuses(rt, alloc, reception, deadline)?;
-            let doorless = doorless(rt, alloc, reception, &nodes, deadline)?;
-            health(alloc, &nodes, &doorless)
-        }
-        Target::Status => {
-            let nodes = statuses(rt, alloc, reception, deadline)?;
-            let doorless = doorless(rt, alloc, reception, &nodes, deadline)?;
-            found(
-                Content::Json,
-                status_json(alloc, &ring(facts, &nodes, &doorless)),
-            )
-        }
-        Target::Metrics => {
-            let nodes = statuses(rt, alloc, reception, deadline)?;
-            found(
-                Content::Metrics,
-                metrics_text(alloc, &ring(facts, &nodes, &[])),
-            )
-        }
         Target::Leaders(node, after) if has(reception, node) => {
             page(rt, alloc, reception, node, after, deadline)
         }
@@ -306,5 +309,43 @@ pub(crate) fn body_of<R: Wait + Clock>(
             gone(rt, alloc, reception, node, group, held, deadline)
         }
         _ => Err(Status::NotFound),
+    }
+}
+
+/// What is told for the target. Refused as 404 where the ring has no such node or the group no leader, and as 503 where a
+/// node does not answer in time, or memory is wanting.
+pub(crate) fn body_of<R: Wait + Clock>(
+    rt: &R,
+    alloc: Global,
+    facts: &Facts,
+    reception: &Reception,
+    target: Target,
+    deadline: Deadline,
+) -> Result<Body, Status> {
+    match target {
+        Target::Live => found(Content::Text, String::from_str(alloc, LIVE)),
+        Target::Ready => ready(alloc, &statuses(rt, alloc, reception, deadline)?),
+        Target::Health => {
+            let nodes = statuses(rt, alloc, reception, deadline)?;
+            let doorless = doorless(rt, alloc, reception, &nodes, deadline)?;
+            health(alloc, &nodes, &doorless)
+        }
+        Target::Status => {
+            let nodes = statuses(rt, alloc, reception, deadline)?;
+            let doorless = doorless(rt, alloc, reception, &nodes, deadline)?;
+            let ring = ring(facts, &nodes, &doorless);
+            found(Content::Json, status_json(alloc, &ring))
+        }
+        Target::Metrics => {
+            let nodes = statuses(rt, alloc, reception, deadline)?;
+            let ring = ring(facts, &nodes, &[]);
+            found(
+                Content::Metrics,
+                metrics_text(alloc, &ring, &process(&facts.statm)),
+            )
+        }
+        Target::Page => ring_for_people(rt, alloc, facts, reception, deadline),
+        Target::Group(group) => group_for_people(rt, alloc, reception, group, deadline),
+        _ => body_of_leaders(rt, alloc, reception, target, deadline),
     }
 }

@@ -5,6 +5,7 @@ use crate::reception::Reception;
 use crate::watchers::{Watchers, attend};
 use libc::net::{SHUT_RDWR, listen, shutdown};
 use std::alloc::{AllocError, Global};
+use std::fs::File;
 use std::net::TcpListener;
 use std::os::fd::AsRawFd;
 use std::sync::atomic::{AtomicBool, AtomicUsize, Ordering};
@@ -32,6 +33,8 @@ pub struct Facts {
     pub words: String,
     /// How many seconds a session may go without a whole line or a whole answer; 0 is for ever.
     pub idle: u32,
+    /// What the system says of the process's memory: `/proc/self/statm`, where that was had.
+    pub statm: Option<File>,
 }
 
 /// The port at which an operator is told of a ring: one request a connection. One of its eight threads waits for all

@@ -3,7 +3,7 @@ use ring_status::{Content, Method, Status, answer_text};
 use std::test::Fail;
 
 /// A method, a status, what the body is, a body, and the bytes of the answer.
-static ANSWERS: [(Method, Status, Content, &str, &str); 7] = [
+static ANSWERS: [(Method, Status, Content, &str, &str); 8] = [
     (
         Method::Get,
         Status::Found,
@@ -27,6 +27,14 @@ static ANSWERS: [(Method, Status, Content, &str, &str); 7] = [
         "",
         "HTTP/1.1 503 Service Unavailable\r\nContent-Type: text/plain; version=0.0.4; \
          charset=utf-8\r\nContent-Length: 0\r\nCache-Control: no-store\r\nConnection: close\r\n\r\n",
+    ),
+    (
+        Method::Get,
+        Status::Found,
+        Content::Page,
+        "<p>",
+        "HTTP/1.1 200 OK\r\nContent-Type: text/html; charset=utf-8\r\nContent-Length: 3\r\nCache-Control: \
+         no-store\r\nConnection: close\r\n\r\n<p>",
     ),
     (
         Method::Get,

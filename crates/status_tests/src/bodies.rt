@@ -1,61 +1,101 @@
 // What is told of a ring.
-use crate::rows::{lead, node};
+use crate::rows::{known, lead, node, nodes_in};
 use ring_records::NodeNo;
 use ring_status::{
-    Condition, Holder, RingStatus, are_well, health_text, latest_json, leaders_json, metrics_text,
-    status_json,
+    Condition, Process, RingStatus, are_well, can_elect, health_text, latest_json, leaders_json,
+    metrics_text, ready_text, resident_bytes, status_json,
 };
 use std::test::Fail;
 
+/// The conditions of three nodes, whether the ring can elect, and what is told of both.
+static HEALTH: [([Condition; 3], bool, &str, &str); 9] = [
+    (
+        [Condition::Well, Condition::Well, Condition::Well],
+        true,
+        "well\n",
+        "ready\n",
+    ),
+    (
+        [Condition::Limit, Condition::Failed, Condition::Full],
+        false,
+        "node 1 limit\nnode 2 failed\nnode 3 full\nhelp: see the disk, and start ringd again\n",
+        "node 1 limit\nnode 2 failed\nnode 3 full\n",
+    ),
+    (
+        [Condition::Well, Condition::Full, Condition::Well],
+        false,
+        "node 2 full\nhelp: retire old terms\n",
+        "node 2 full\n",
+    ),
+    (
+        [Condition::Well, Condition::Well, Condition::Failed],
+        false,
+        "node 3 failed\nhelp: see the disk, and start ringd again\n",
+        "node 3 failed\n",
+    ),
+    (
+        [Condition::Hangs, Condition::Well, Condition::Full],
+        false,
+        "node 1 hangs\nnode 3 full\nhelp: see the disk\n",
+        "node 1 hangs\nnode 3 full\n",
+    ),
+    // a node at its limit passes messages on
+    (
+        [Condition::Limit, Condition::Well, Condition::Limit],
+        true,
+        "node 1 limit\nnode 3 limit\nhelp: retire old terms, or stand at other nodes\n",
+        "ready\n",
+    ),
+    (
+        [Condition::Limit, Condition::Limit, Condition::Limit],
+        false,
+        "node 1 limit\nnode 2 limit\nnode 3 limit\nhelp: retire old terms, or stand at other nodes\n",
+        "node 1 limit\nnode 2 limit\nnode 3 limit\n",
+    ),
+    (
+        [Condition::Limit, Condition::Hangs, Condition::Well],
+        false,
+        "node 1 limit\nnode 2 hangs\nhelp: see the disk\n",
+        "node 2 hangs\n",
+    ),
+    (
+        [Condition::Limit, Condition::Full, Condition::Limit],
+        false,
+        "node 1 limit\nnode 2 full\nnode 3 limit\nhelp: retire old terms\n",
+        "node 1 limit\nnode 2 full\nnode 3 limit\n",
+    ),
+];
+
 #[test]
-fn health(rt: HostRuntime) -> Result<(), Fail> {
-    let table: [([Condition; 3], &str); 5] = [
-        (
-            [Condition::Well, Condition::Well, Condition::Well],
-            "well\n",
-        ),
-        (
-            [Condition::Limit, Condition::Failed, Condition::Full],
-            "node 1 limit\nnode 2 failed\nnode 3 full\n",
-        ),
-        (
-            [Condition::Well, Condition::Full, Condition::Well],
-            "node 2 full\n",
-        ),
-        (
-            [Condition::Well, Condition::Well, Condition::Failed],
-            "node 3 failed\n",
-        ),
-        (
-            [Condition::Hangs, Condition::Well, Condition::Well],
-            "node 1 hangs\n",
-        ),
-    ];
-    for (conditions, wanted) in table {
-        let mut nodes = Vec::new(rt.alloc());
-        let mut number = 0u8;
-        for condition in conditions {
-            number = number.saturating_add(1);
-            nodes.push(node(&rt, rt.alloc(), number, condition)?)?;
-        }
-        assert!(rt; health_text(rt.alloc(), &nodes, &[])?.as_str() == wanted);
-        assert!(rt; are_well(&nodes) == (wanted == "well\n"));
+fn health_and_readiness(rt: HostRuntime) -> Result<(), Fail> {
+    for row in &HEALTH {
+        let (conditions, elects, health, ready) = *row;
+        let nodes = nodes_in(&rt, rt.alloc(), &conditions)?;
+        assert!(rt;
+            health_text(rt.alloc(), &nodes, &[])?.as_str() == health,
+            "{health}"
+        );
+        assert!(rt; are_well(&nodes) == (health == "well\n"), "{health}");
+        assert!(rt; can_elect(&nodes) == elects, "{health}");
+        assert!(rt;
+            ready_text(rt.alloc(), &nodes)?.as_str() == ready,
+            "{health}"
+        );
     }
     Ok(())
 }
 
 #[test]
 fn doors(rt: HostRuntime) -> Result<(), Fail> {
-    let mut nodes = Vec::new(rt.alloc());
-    nodes.push(node(&rt, rt.alloc(), 1, Condition::Well)?)?;
-    nodes.push(node(&rt, rt.alloc(), 2, Condition::Full)?)?;
     let without = [NodeNo::first(), NodeNo::new(2)?];
+    let nodes = nodes_in(&rt, rt.alloc(), &[Condition::Well, Condition::Full])?;
     assert!(rt;
-        health_text(rt.alloc(), &[], &without[..1])?.as_str() == "node 1 has no door free\n"
+        health_text(rt.alloc(), &[], &without[..1])?.as_str()
+            == "node 1 has no door free\nhelp: give more doors, or less idle time\n"
     );
     assert!(rt;
         health_text(rt.alloc(), &nodes, &without)?.as_str()
-            == "node 2 full\nnode 1 has no door free\nnode 2 has no door free\n"
+            == "node 2 full\nnode 1 has no door free\nnode 2 has no door free\nhelp: retire old terms\n"
     );
     Ok(())
 }
@@ -82,15 +122,6 @@ fn status(rt: HostRuntime) -> Result<(), Fail> {
          \"started\":1700000000,\"version\":\"0.1.0\",\"words\":\"--always --idle 5\"}"
     );
     Ok(())
-}
-
-/// What is known of who leads.
-fn known(present: bool, resigned: bool, text: &str) -> Holder<'_> {
-    Holder {
-        present,
-        resigned,
-        text,
-    }
 }
 
 #[test]
@@ -132,19 +163,31 @@ fn metrics(rt: HostRuntime) -> Result<(), Fail> {
         nodes: &nodes,
         doorless: &[],
     };
-    let text = metrics_text(rt.alloc(), &ring)?;
-    // 33 families of two lines each, a line for each node in 29 of them, two of them with five lines of commits and two
-    // refusals, version and start
-    assert!(rt; text.as_str().lines().count() == 33 * 2 + 29 * 2 + 2 * 5 + 2 * 2 + 2);
+    let process = Process {
+        resident_bytes: Some(11_534_336),
+        open_fds: Some(24),
+        max_fds: None,
+    };
+    let text = metrics_text(rt.alloc(), &ring, &process)?;
+    // 36 families of two lines each, a line for each node in 29 of them, two of them with five lines of commits and two
+    // refusals, version and start, and three of the process
+    assert!(rt; text.as_str().lines().count() == 36 * 2 + 29 * 2 + 2 * 5 + 2 * 2 + 2 + 3);
+    assert!(rt; !text.as_str().contains("process_max_fds"));
     for part in [
-        "# HELP cinoweta_build_info 1, with the version of the program.\n# TYPE cinoweta_build_info \
-         gauge\ncinoweta_build_info{version=\"0.1.0\"} 1\n",
+        "# HELP cinoweta_build_info 1, with the version of the program, and the layout that it \
+         writes.\n# TYPE cinoweta_build_info \
+         gauge\ncinoweta_build_info{version=\"0.1.0\",layout=\"3\"} 1\n",
         "# HELP cinoweta_messages_refused_total Messages that the node refused for want of room since the start.\n# TYPE \
          cinoweta_messages_refused_total counter\ncinoweta_messages_refused_total{node=\"1\"} 17\n",
         "# HELP cinoweta_elections_total Leaders that became known to the node since the start.\n# TYPE \
          cinoweta_elections_total counter\ncinoweta_elections_total{node=\"1\"} 18\n",
         "# HELP cinoweta_start_time_seconds When the program was started, in Unix time.\n# TYPE \
          cinoweta_start_time_seconds gauge\ncinoweta_start_time_seconds 1700000000\n",
+        "# HELP process_start_time_seconds Start time of the process since unix epoch in seconds.\n# TYPE \
+         process_start_time_seconds gauge\nprocess_start_time_seconds 1700000000\n# HELP \
+         process_resident_memory_bytes Resident memory size in bytes.\n# TYPE process_resident_memory_bytes \
+         gauge\nprocess_resident_memory_bytes 11534336\n# HELP process_open_fds Number of open file descriptors.\n# \
+         TYPE process_open_fds gauge\nprocess_open_fds 24\n# HELP cinoweta_node_failed ",
         "# HELP cinoweta_node_full Whether the node has no room for a Stand or a message.\n# TYPE cinoweta_node_full \
          gauge\ncinoweta_node_full{node=\"1\"} 0\ncinoweta_node_full{node=\"2\"} 1\n",
         "# HELP cinoweta_writing_seconds Seconds for which its device has been busy with one of these.\n# TYPE \
@@ -173,4 +216,19 @@ fn metrics(rt: HostRuntime) -> Result<(), Fail> {
         assert!(rt; text.as_str().contains(part), "{part}");
     }
     Ok(())
+}
+
+#[test]
+fn the_process(rt: HostRuntime) {
+    for (statm, page, wanted) in [
+        ("2905 2816 1024 230 0 2600 0\n", 4_096, Some(11_534_336)),
+        ("0 0 0", 4_096, Some(0)),
+        ("1 999999999", 65_536, Some(65_535_999_934_464)),
+        ("1 1000000000 1", 4_096, None),
+        ("2905", 4_096, None),
+        ("2905  2816", 4_096, None),
+        ("", 4_096, None),
+    ] {
+        assert!(rt; resident_bytes(statm.as_bytes(), page) == wanted, "{statm}");
+    }
 }

@@ -34,7 +34,7 @@ static REFUSED: [(&str, Status); 7] = [
     ("POST /health HTTP/1.1\r\n\r\n", Status::NotAllowed),
     ("get /health HTTP/1.1\r\n\r\n", Status::NotAllowed),
     ("DELETE /nothing HTTP/1.1\r\n\r\n", Status::NotAllowed),
-    ("GET / HTTP/1.1\r\n\r\n", Status::NotFound),
+    ("GET /nothing HTTP/1.1\r\n\r\n", Status::NotFound),
     ("GET /leaders/Red HTTP/1.1\r\n\r\n", Status::BadRequest),
     ("GET /health HTTP/2.0\r\n\r\n", Status::BadRequest),
     ("stand red 5 10\n", Status::BadRequest),
@@ -87,7 +87,7 @@ fn targets(rt: HostRuntime) {
     let red = GroupName::read(b"red").expect(&rt, "a group");
     let first = node(&rt, 1);
     let second = node(&rt, 2);
-    let table: [(&str, Target); 14] = [
+    let table: [(&str, Target); 18] = [
         ("/leaders", Target::Leaders(first, None)),
         ("/leaders?node=2", Target::Leaders(second, None)),
         ("/leaders?node=16", Target::Leaders(node(&rt, 16), None)),
@@ -115,6 +115,10 @@ fn targets(rt: HostRuntime) {
             Target::HeldOf(second, red, 0, 0),
         ),
         ("/live", Target::Live),
+        ("/ready", Target::Ready),
+        ("/", Target::Page),
+        ("/?a=b", Target::Page),
+        ("/groups/red?node=2", Target::Group(red)),
         ("/health?", Target::Health),
         ("/status?a=b&c", Target::Status),
     ];
@@ -123,7 +127,7 @@ fn targets(rt: HostRuntime) {
     }
 }
 
-static NO_TARGETS: [(&str, Status); 25] = [
+static NO_TARGETS: [(&str, Status); 28] = [
     ("/leaders?", Status::BadRequest),
     ("/leaders?node=0", Status::BadRequest),
     ("/leaders?node=17", Status::BadRequest),
@@ -144,6 +148,9 @@ static NO_TARGETS: [(&str, Status); 25] = [
     ("/leaders/red?held=4", Status::BadRequest),
     ("/leaders/red?held=1000000000&wait=1", Status::BadRequest),
     ("/leaders/red?above=4&held=4", Status::BadRequest),
+    ("/groups/", Status::BadRequest),
+    ("/groups/<b>", Status::BadRequest),
+    ("/groups", Status::NotFound),
     ("*", Status::NotFound),
     ("/health/", Status::NotFound),
     ("/lives", Status::NotFound),

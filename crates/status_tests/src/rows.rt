@@ -1,8 +1,8 @@
 // Rings that tests tell of.
 use ring_records::{Bid, Candidate, Decision, GroupName, Key, NodeNo, Shown, Term};
 use ring_status::{
-    Bound, CommitTimes, Condition, Counts, Holding, Letters, NodeStatus, Place, RefusalCount,
-    WithinCount,
+    Bound, CommitTimes, Condition, Counts, Holder, Holding, Letters, NodeStatus, Place,
+    RefusalCount, WithinCount,
 };
 use std::alloc::{AllocError, Global};
 use std::process::Abort;
@@ -97,6 +97,30 @@ pub fn node(
         },
         refusals,
     })
+}
+
+/// Nodes in these conditions, in their order.
+pub fn nodes_in(
+    rt: &impl Abort,
+    alloc: Global,
+    conditions: &[Condition],
+) -> Result<Vec<NodeStatus>, AllocError> {
+    let mut nodes = Vec::new(alloc);
+    let mut number = 0u8;
+    for condition in conditions {
+        number = number.saturating_add(1);
+        nodes.push(node(rt, alloc, number, *condition)?)?;
+    }
+    Ok(nodes)
+}
+
+/// What is known of who leads.
+pub fn known(present: bool, resigned: bool, text: &str) -> Holder<'_> {
+    Holder {
+        present,
+        resigned,
+        text,
+    }
 }
 
 /// A decision of plain numbers.

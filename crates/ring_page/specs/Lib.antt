@@ -1,0 +1,5 @@
+pub mod Escaped
+pub mod Frame
+pub mod Leaders
+pub mod Nodes
+pub mod Pages

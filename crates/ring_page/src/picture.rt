@@ -1,0 +1,109 @@
+// A picture of the ring.
+ghost use Rattle.std.specs.Prelude.{◌≡◌, ◌++◌, ◌/◌, max, length, OnOk, string_bytes};
+ghost use Rattle.std.specs.List.{flat_map};
+ghost use Rattle.ring_page.specs.Nodes.{drawn, picture, picture_end, picture_start, place_drawn, room_drawn, turn, way_drawn, words_drawn};
+
+use ring_records::NodeNo;
+use ring_status::{NodeStatus, condition_text};
+use std::alloc::AllocError;
+
+// At how many degrees a node of so many stands.
+fn turn(node: NodeNo, count: usize) -> usize
+    ensures { result ≡ turn node count }
+{
+    360 * (usize::from(node.number()) - 1) / count.max(1)
+}
+
+// Half of the degrees between two of so many nodes.
+fn half(count: usize) -> usize
+    ensures { result ≡ 180 / max count 1 }
+{
+    180 / count.max(1)
+}
+
+#[tactic(auto, unfolding(crate::specs::Nodes::way_drawn))]
+fn draw_way(out: &mut String, degrees: usize, half: usize) -> Result<(), AllocError>
+    ensures { OnOk result (string_bytes out.new ≡ string_bytes out.old ++ way_drawn degrees half) }
+{
+    writeln!(
+        out,
+        "<path class=\"way\" transform=\"rotate({degrees}) rotate({half}) translate(0 -180)\" d=\"M-5 -5L4 0L-5 5\"/>"
+    )
+}
+
+#[tactic(auto, unfolding(crate::specs::Nodes::place_drawn))]
+fn draw_place(out: &mut String, degrees: usize, state: &str) -> Result<(), AllocError>
+    ensures { OnOk result (string_bytes out.new ≡ string_bytes out.old ++ place_drawn degrees state.now) }
+{
+    writeln!(
+        out,
+        "<g transform=\"rotate({degrees}) translate(0 -180) rotate(-{degrees})\"><circle class=\"{state}\" r=\"21\"/>"
+    )
+}
+
+#[tactic(auto, unfolding(crate::specs::Nodes::room_drawn))]
+fn draw_room(out: &mut String, used: u64, capacity: u64) -> Result<(), AllocError>
+    ensures { OnOk result (string_bytes out.new ≡ string_bytes out.old ++ room_drawn used capacity) }
+{
+    writeln!(
+        out,
+        "<circle class=\"used\" r=\"25\" transform=\"rotate(-90)\" pathLength=\"{capacity}\" stroke-dasharray=\"{used} {capacity}\"/>"
+    )
+}
+
+#[tactic(auto, unfolding(crate::specs::Nodes::words_drawn))]
+fn draw_words(out: &mut String, node: u8, state: &str, waiting: u64) -> Result<(), AllocError>
+    ensures { OnOk result (string_bytes out.new ≡ string_bytes out.old ++ words_drawn node state.now waiting) }
+{
+    writeln!(
+        out,
+        "<text>{node}</text><text y=\"12\">{state}</text><text y=\"38\">{waiting} waiting</text></g>"
+    )
+}
+
+#[tactic(auto, using(ring_status::proofs::Appends::four))]
+fn draw_node(out: &mut String, count: usize, node: &NodeStatus) -> Result<(), AllocError>
+    ensures { OnOk result (string_bytes out.new ≡ string_bytes out.old ++ drawn count node.now) }
+{
+    let state = condition_text(node.condition);
+    let degrees = turn(node.place.node, count);
+    draw_way(out, degrees, half(count))?;
+    draw_place(out, degrees, state)?;
+    draw_room(out, node.held.used, node.held.capacity)?;
+    draw_words(out, node.place.node.number(), state, node.letters.count)
+}
+
+fn draw_nodes(out: &mut String, count: usize, nodes: &[NodeStatus]) -> Result<(), AllocError>
+    ensures { OnOk result (string_bytes out.new ≡ string_bytes out.old ++ flat_map (drawn count) nodes.now) }
+{
+    for node in nodes {
+        draw_node(out, count, node)?;
+    }
+    Ok(())
+}
+
+#[tactic(auto, unfolding(crate::specs::Nodes::picture_start))]
+fn draw_start(out: &mut String) -> Result<(), AllocError>
+    ensures { OnOk result (string_bytes out.new ≡ string_bytes out.old ++ picture_start) }
+{
+    out.push_str(
+        "<svg viewBox=\"-230 -230 460 460\" width=\"460\" height=\"460\" role=\"img\" aria-label=\"The ring, as in the table\">\n<circle class=\"way\" r=\"180\"/>\n",
+    )
+}
+
+#[tactic(auto, unfolding(crate::specs::Nodes::picture_end))]
+fn draw_end(out: &mut String) -> Result<(), AllocError>
+    ensures { OnOk result (string_bytes out.new ≡ string_bytes out.old ++ picture_end) }
+{
+    out.push_str("</svg>\n")
+}
+
+#[tactic(auto, using(ring_status::proofs::Appends::three))]
+/// Adds a picture of the nodes in a circle, as SVG.
+pub(crate) fn print_picture(out: &mut String, nodes: &[NodeStatus]) -> Result<(), AllocError>
+    ensures { OnOk result (string_bytes out.new ≡ string_bytes out.old ++ picture nodes.now) }
+{
+    draw_start(out)?;
+    draw_nodes(out, nodes.len(), nodes)?;
+    draw_end(out)
+}
