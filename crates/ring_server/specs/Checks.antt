@@ -1,6 +1,10 @@
 -- What an audit says of the nodes of a ring as they were opened.
 use Rattle.std.specs.Prelude.{ℕ, ◌≡◌, ◌≤◌, ◌<◌, ◌+◌, List, length, map}
+use Rattle.std.specs.List.{AllByRecursion}
 use Rattle.ring_records.specs.declared.input.Input.{Input}
+use Rattle.ring_records.specs.declared.key.Key.{Key}
+use Rattle.ring_records.specs.declared.notice.Notice.{Notice}
+use Rattle.ring_records.specs.declared.notice.Notice.TheVariants as tells
 use Rattle.ring_audit.specs.Audits.{HasNoRun}
 use Rattle.ring_audit.specs.Placement.{IsStuck, IsWhole}
 use Rattle.group_commit.specs.Desk.{DeskKept}
@@ -13,6 +17,15 @@ abbrev pub status_of : Verdict → ℕ
 status_of (says.Stuck node place) = 1
 status_of (says.Whole count) = 0
 status_of (says.Dropped node) = 0
+
+-- the notice tells no leader of a later term of the key's group
+abbrev pub IsNoLater : Key → Notice → Type 0
+IsNoLater key (tells.Decided decision) = decision.key.group ≡ key.group → decision.key.term ≤ key.term
+IsNoLater key (tells.Retired group floor) = Unit {0}
+
+-- none of them does
+abbrev pub AreNoLater : Key → List Notice → Type 0
+AreNoLater key told = AllByRecursion (IsNoLater key) told
 
 module _ {A : Type 0} (desk_in : A → DeskKept) where
   -- the inputs of each node since its opening

@@ -1,7 +1,7 @@
 //! What an operator is told of a ring that is stopped.
-ghost use Rattle.std.specs.Prelude.{ℕ, ◌≡◌, ◌≤◌, ◌+◌, length, IfOk, IfSome, IfNone, OnErr};
+ghost use Rattle.std.specs.Prelude.{ℕ, ◌≡◌, ◌≤◌, ◌+◌, length, Decides, IfOk, IfSome, IfNone, OnErr};
 ghost use Rattle.ring_audit.specs.Placement.{lists};
-ghost use Rattle.ring_server.specs.Checks.{histories, AreWhole, IsVerdict, IsFirstDropped, status_of};
+ghost use Rattle.ring_server.specs.Checks.{histories, AreNoLater, AreWhole, IsNoLater, IsVerdict, IsFirstDropped, status_of};
 ghost use Rattle.ring_server.specs.Fits.{found_as, IsInOrder};
 
 use crate::found::Found;
@@ -9,7 +9,7 @@ use crate::look_over::{desk_at, number_at};
 use crate::run_fault::RunFault;
 use disk_model::Device;
 use ring_audit::{AuditFault, audit};
-use ring_records::{Input, NodeNo};
+use ring_records::{Decision, Input, Key, NodeNo, Notice};
 use std::alloc::{AllocError, Global};
 use std::io;
 use std::io::Write;
@@ -38,10 +38,12 @@ impl Verdict {
 }
 
 /// Prints a line of each node, with how many inputs it accepted and how many of them its snapshot stands for, and one of
-/// what an audit says; then the status to end with. Refused with what was not printed, and where memory was wanting.
+/// what an audit says; then the status to end with. With `leaders` there stands behind each node's line one of the latest
+/// leader of each group that it knows. Refused with what was not printed, and where memory was wanting.
 pub(crate) fn tell_ring<V: Device, O: Write>(
     alloc: Global,
     ring: &[Found<V>],
+    leaders: bool,
     out: &mut O,
 ) -> Result<u8, RunFault>
     requires order { IsInOrder found_as ring.now }
@@ -49,23 +51,81 @@ pub(crate) fn tell_ring<V: Device, O: Write>(
     ensures { IfOk result (λ status. (verdict : Verdict) × IsVerdict found_as ring.now verdict × (status ≡ status_of verdict)) }
 {
     let verdict = audit_ring(alloc, ring)?;
-    if print_ring(ring, &verdict, out).is_err() {
+    print_nodes(ring, leaders, out)?;
+    if print_verdict(&verdict, out).is_err() {
         return Err(RunFault::Output);
     }
     Ok(verdict.status())
 }
 
-fn print_ring<V: Device, O: Write>(
+/// A line of each node, and behind it the leaders that it knows, where they are asked for.
+fn print_nodes<V: Device, O: Write>(
     ring: &[Found<V>],
-    verdict: &Verdict,
+    leaders: bool,
     out: &mut O,
-) -> io::Result<()> {
+) -> Result<(), RunFault> {
     for node in ring {
         let number = node.number();
         let desk = node.desk();
         let (inputs, behind) = (desk.accepted(), desk.first());
-        writeln!(out, "node {number} inputs {inputs} behind {behind}")?;
+        if writeln!(out, "node {number} inputs {inputs} behind {behind}").is_err() {
+            return Err(RunFault::Output);
+        }
+        if leaders {
+            let told = desk.decisions()?;
+            if print_leaders(number, &told, out).is_err() {
+                return Err(RunFault::Output);
+            }
+        }
     }
+    Ok(())
+}
+
+/// A line of a leader.
+fn print_leader<O: Write>(node: NodeNo, decision: &Decision, out: &mut O) -> io::Result<()> {
+    let Decision { key, leader } = decision;
+    write!(out, "node {node} ")?;
+    out.write_all(key.group.as_bytes())?;
+    writeln!(
+        out,
+        " term {} leader {} {}",
+        key.term, leader.node, leader.bid
+    )
+}
+
+/// A line of the latest leader of each group of which one is told.
+fn print_leaders<O: Write>(node: NodeNo, told: &[Notice], out: &mut O) -> io::Result<()> {
+    for notice in told {
+        if let Notice::Decided(decision) = notice {
+            if is_latest(&decision.key, told) {
+                print_leader(node, decision, out)?;
+            }
+        }
+    }
+    Ok(())
+}
+
+/// Whether the notice tells no leader of a later term of the key's group.
+fn is_no_later(key: &Key, notice: &Notice) -> bool
+    ensures { Decides result (IsNoLater key.now notice.now) }
+{
+    match notice {
+        Notice::Decided(decision) => {
+            decision.key.group != key.group || decision.key.term <= key.term
+        }
+        Notice::Retired { .. } => true,
+    }
+}
+
+/// Whether none of the notices does.
+fn is_latest(key: &Key, told: &[Notice]) -> bool
+    ensures { Decides result (AreNoLater key.now told.now) }
+{
+    told.iter().all(|notice| is_no_later(key, notice))
+}
+
+/// A line of what an audit says.
+fn print_verdict<O: Write>(verdict: &Verdict, out: &mut O) -> io::Result<()> {
     match verdict {
         Verdict::Whole(count) => writeln!(out, "audit ok {count}")?,
         Verdict::Stuck(node, place) => writeln!(out, "audit stuck {node} {place}")?,

@@ -1,15 +1,15 @@
 //! The inbox's thread.
 ghost use Rattle.std.specs.Prelude.{◌≡◌, []};
 
-use crate::credits::Credits;
-use crate::held::{awaits_room, has_little_room, is_full, is_left};
 use crate::links::Links;
-use crate::outcome::{Outcome, outcome_of};
-use crate::pace::{Coming, Pace};
+use crate::pace::{Coming, next};
 use crate::window::send_what_may_miss;
 use commit_hub::{Hub, Node, Share};
 use crossbeam_channel::Receiver;
 use group_commit::Ticket;
+use ring_post::{
+    Credits, Outcome, Pace, awaits_room, has_little_room, is_full, is_left, outcome_of,
+};
 use ring_records::{Packet, Refusal, Reply, Request};
 use std::alloc::Global;
 use std::sync::Wait;
@@ -46,7 +46,7 @@ pub(crate) fn take_all<A: Node, R: Wait + Clock>(
         pace: Pace::new(),
     };
     for _ in rt.forever() {
-        match intake.pace.next(rt, inbox) {
+        match next(rt, &mut intake.pace, inbox) {
             Coming::Packet(packet) => {
                 take(rt, hub, &mut intake, packet, links);
                 take_waiting(rt, hub, &mut intake, inbox, links);
@@ -87,7 +87,7 @@ fn take_waiting<A: Node, R: Wait + Clock>(
             }
         }
     }
-    intake.pace.leave(leaves_some);
+    intake.pace.end(leaves_some);
     if intake.credits.are_due(&hub.look(rt)) {
         tell(rt, hub, intake);
     }
@@ -237,7 +237,7 @@ fn release_all<A: Node, R: Wait>(rt: &R, hub: &Hub<A>, intake: &mut Intake<A>, l
 /// Waits for the reply, and ends the ticket; `None` where the hub has failed.
 fn reply_to<A: Node, R: Wait>(rt: &R, hub: &Hub<A>, ticket: Ticket) -> Option<Reply> {
     match hub.redeem_wait(rt, ticket) {
-        Ok((reply, _stub)) => Some(reply),
+        Ok((reply, _stub, _begun)) => Some(reply),
         Err((ticket, _)) => {
             let _ = hub.forfeit(rt, ticket);
             None

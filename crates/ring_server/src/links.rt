@@ -2,13 +2,13 @@
 ghost use Rattle.std.specs.Prelude.{◌≡◌, ◌≤◌};
 
 use crate::post::Post;
-use crate::repeats::Repeats;
 use crate::shared::Shared;
 use crate::turnstile::Turnstile;
 use crate::watch::Watch;
+use disk_model::SystemFault;
+use ring_post::{Repeats, is_missing, receiver_of};
 use ring_records::{NodeNo, Packet};
 use ring_watch::{Reception, Tally};
-use std::io::ErrorKind;
 use std::sync::atomic::{AtomicU64, Ordering};
 use std::sync::{Mutex, Wait};
 use std::time::{Clock, Instant};
@@ -16,11 +16,29 @@ use std::time::{Clock, Instant};
 /// How many messages are sent again at once. So a letterbox has twice as many at most that were sent before.
 const AGAIN: usize = 1_024;
 
+/// When messages were sent again, in milliseconds from the first look on.
+#[derive(Clone, Copy)]
+struct Resending {
+    begun: Option<Instant>,
+    repeats: Repeats,
+}
+
+impl Resending {
+    /// Whether messages are to be sent again now, where the successor is known to have so many.
+    fn is_due(&mut self, now: Instant, heard: u64) -> bool {
+        let begun = self.begun.unwrap_or(now);
+        self.begun = Some(begun);
+        let millis = now.saturating_duration_since(begun).as_millis();
+        self.repeats
+            .are_due(millis.min(u128::from(u64::MAX)) as u64, heard)
+    }
+}
+
 /// What a node knows of its successor: the greatest credit that its inbox heard, and when messages were sent again.
 #[derive(Drop)]
 pub(crate) struct Successor {
     heard: AtomicU64,
-    repeats: Mutex<Repeats>,
+    resending: Mutex<Resending>,
 }
 
 impl Successor {
@@ -28,7 +46,10 @@ impl Successor {
     pub(crate) fn new() -> Successor {
         Successor {
             heard: AtomicU64::new(0),
-            repeats: Mutex::new(Repeats::new()),
+            resending: Mutex::new(Resending {
+                begun: None,
+                repeats: Repeats::new(),
+            }),
         }
     }
 }
@@ -76,11 +97,8 @@ impl<'a> Links<'a> {
 
     /// Sends a message to the successor, a credit to the predecessor.
     pub(crate) fn send<R: Wait>(&self, rt: &R, packet: Packet) {
-        let to = match packet {
-            Packet::Carry { .. } => self.node.successor(self.nodes),
-            Packet::Credit { .. } => self.node.predecessor(self.nodes),
-        };
-        self.post.send(rt, to, packet);
+        let receiver = receiver_of(self.node, self.nodes, &packet);
+        self.post.send(rt, receiver, packet);
     }
 
     /// Sends all of them, in this order.
@@ -112,7 +130,7 @@ impl<'a> Links<'a> {
             return false;
         };
         let heard = self.successor.heard.load(Ordering::SeqCst);
-        self.successor.repeats.lock(rt).are_due(now, heard)
+        self.successor.resending.lock(rt).is_due(now, heard)
     }
 
     /// Sends the first packets of the node's window again that the successor is not known to have; of what it is known
@@ -124,18 +142,15 @@ impl<'a> Links<'a> {
             if left == 0 {
                 break;
             }
-            match *packet {
-                Packet::Carry { no, .. } if no < heard => {}
-                packet => {
-                    left -= 1;
-                    self.send(rt, packet);
-                }
+            if is_missing(packet, heard) {
+                left -= 1;
+                self.send(rt, *packet);
             }
         }
     }
 
     /// The node has failed, with what the system answered, where that is known.
-    pub(crate) fn fail<R: Wait>(&self, rt: &R, cause: Option<ErrorKind>) {
+    pub(crate) fn fail<R: Wait>(&self, rt: &R, cause: Option<SystemFault>) {
         self.watch.fail(rt, self.node, cause);
     }
 

@@ -10,10 +10,9 @@ use crate::flush::flush_all;
 use crate::inbox::take_all;
 use crate::links::{Links, Successor};
 use crate::open_node::OpenNode;
-use crate::run_fault::RunFault;
 use crate::shared::Shared;
 use crate::site::{Doors, Entrance, Site};
-use crate::start_latch::StartLatch;
+use crate::start_latch::{Shortage, StartLatch};
 use crate::turnstile::Turnstile;
 use crate::window::send_window;
 use commit_hub::{Hub, Node, Share};
@@ -23,7 +22,7 @@ use disk_model::Device;
 use ring_records::{Packet, Shown};
 use ring_service::{Flusher, opened_board};
 use ring_watch::Tally;
-use std::alloc::{AllocError, Global};
+use std::alloc::Global;
 use std::net::TcpListener;
 use std::sync::Wait;
 use std::thread::{JoinHandle, Scope, Threads, scope, scope_env};
@@ -142,7 +141,7 @@ fn run_node<
 
 /// Tells the latch that memory or a place is wanting: the node does not start.
 fn unstarted<T, R: Wait>(rt: &R, latch: &StartLatch) -> Option<T> {
-    latch.tell(rt, Err(RunFault::Memory(AllocError)));
+    latch.tell(rt, Err(Shortage::Memory));
     None
 }
 
@@ -201,7 +200,7 @@ fn reserve<A: Node>(
     handles: &mut Vec<JoinHandle<Share<A>>>,
     shares: &mut Vec<Share<A>>,
     doors: usize,
-) -> Result<(), RunFault> {
+) -> Result<(), Shortage> {
     handles.reserve(doors)?;
     shares.reserve(doors.saturating_add(1))?;
     Ok(())
@@ -230,13 +229,13 @@ fn serve_inbox<A: Node, R: Wait + Clock>(
 fn keep<A: Node>(
     handles: &mut Vec<JoinHandle<Share<A>>>,
     started: Option<JoinHandle<Share<A>>>,
-) -> Result<(), RunFault> {
+) -> Result<(), Shortage> {
     match started {
         Some(handle) => match handles.push(handle) {
             Ok(()) => Ok(()),
-            Err(_) => Err(RunFault::Memory(AllocError)),
+            Err(_) => Err(Shortage::Memory),
         },
-        None => Err(RunFault::Thread),
+        None => Err(Shortage::Thread),
     }
 }
 
@@ -248,7 +247,7 @@ fn start_inbox<'s, N: 's, A: Node + Send + Sync + 's, R: Wait + Clock + Sync>(
     share: Share<A>,
     inbox: &'s Receiver<Packet>,
     handles: &mut Vec<JoinHandle<Share<A>>>,
-) -> Result<(), RunFault> {
+) -> Result<(), Shortage> {
     let started = scope
         .spawn(move || serve_inbox(rt, common, share, inbox))
         .ok();
@@ -269,7 +268,7 @@ fn start_doors<
     seats: Vec<Seat<J, A>>,
     front: &'s Front,
     handles: &mut Vec<JoinHandle<Share<A>>>,
-) -> Result<(), RunFault> {
+) -> Result<(), Shortage> {
     for seat in seats {
         let Common {
             alloc,
@@ -297,7 +296,7 @@ fn start_clerk<
     rt: &'s R,
     common: &'s Common<'s, A>,
     clerk: Option<Clerk<J>>,
-) -> Result<(), RunFault> {
+) -> Result<(), Shortage> {
     let Some(clerk) = clerk else {
         return Ok(());
     };
@@ -309,7 +308,7 @@ fn start_clerk<
     } = *common;
     match scope.spawn(move || serve_clerk(rt, alloc, hub, clerk, links, latch)) {
         Ok(_) => Ok(()),
-        Err(_) => Err(RunFault::Thread),
+        Err(_) => Err(Shortage::Thread),
     }
 }
 
@@ -328,7 +327,7 @@ fn start_crew<
     inbox: &'s Receiver<Packet>,
     front: &'s Front,
     handles: &mut Vec<JoinHandle<Share<A>>>,
-) -> Result<(), RunFault> {
+) -> Result<(), Shortage> {
     let Crew {
         share,
         seats,

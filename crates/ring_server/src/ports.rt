@@ -1,10 +1,13 @@
 //! The ports of a ring.
 use crate::run_fault::RunFault;
 use crossbeam_channel::Receiver;
+use disk_model::{SystemCall, SystemFault};
 use ring_service::{Settings, VERSION, Words};
 use ring_watch::{Facts, Inquiry, Reception, StatusPort};
 use std::alloc::{AllocError, Global};
+use std::fs::File;
 use std::net::{Ipv4Addr, Net, TcpListener, TcpStream};
+use std::rt::Files;
 use std::time::Clock;
 
 /// The listeners of the nodes, in their order; and the port at which an operator is told of the ring, with what the clerks
@@ -18,7 +21,9 @@ pub(crate) struct Ports {
 
 impl Ports {
     /// All of them, as the words say, which were said so. Refused with the first that is not to be had.
-    pub(crate) fn listen<R: Clock + Net<Listener = TcpListener, Stream = TcpStream>>(
+    pub(crate) fn listen<
+        R: Clock + Files<File = File> + Net<Listener = TcpListener, Stream = TcpStream>,
+    >(
         rt: &R,
         alloc: Global,
         settings: &Settings,
@@ -43,7 +48,7 @@ fn listen_at<R: Net<Listener = TcpListener, Stream = TcpStream>>(
 ) -> Result<TcpListener, RunFault> {
     match TcpListener::bind(rt, (address, port)) {
         Ok(listener) => Ok(listener),
-        Err(error) => Err(RunFault::Port(port, error.kind())),
+        Err(error) => Err(RunFault::Port(port, SystemFault::new(SystemCall::Listen, &error))),
     }
 }
 
@@ -76,7 +81,9 @@ fn joined(alloc: Global, said: &[&str]) -> Result<String, AllocError> {
 
 /// The port at which an operator is told of the ring, and what the clerks of its nodes are asked, in their order; none
 /// where no port is said.
-fn listen_for_questions<R: Clock + Net<Listener = TcpListener, Stream = TcpStream>>(
+fn listen_for_questions<
+    R: Clock + Files<File = File> + Net<Listener = TcpListener, Stream = TcpStream>,
+>(
     rt: &R,
     alloc: Global,
     settings: &Settings,
@@ -96,6 +103,7 @@ fn listen_for_questions<R: Clock + Net<Listener = TcpListener, Stream = TcpStrea
         },
         words: joined(alloc, said)?,
         idle: words.idle,
+        statm: File::open(rt, "/proc/self/statm").ok(),
     };
     let (reception, clerks) = Reception::new(alloc, settings.nodes)?;
     let watchers = words.watchers as usize;

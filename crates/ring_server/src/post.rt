@@ -15,12 +15,12 @@ struct Letterbox {
     waiting: AtomicU64,
 }
 
-/// Where packets are sent to. It alone holds senders, so that all letterboxes close at once: an inbox sends too, and
-/// would keep the next one open else.
+/// Where packets are sent to, and how many nodes have a door that is not done. It alone holds senders, so that all letterboxes
+/// close at once: an inbox sends too, and would keep the next one open else.
 #[derive(Drop)]
 pub struct Post {
     boxes: Vec<Letterbox>,
-    doors: AtomicU64,
+    nodes: AtomicU64,
 }
 
 impl Post {
@@ -35,8 +35,8 @@ impl Post {
             boxes.push(Letterbox { sender, waiting })?;
             receivers.push(receiver)?;
         }
-        let doors = AtomicU64::new(u64::from(nodes));
-        Ok((Post { boxes, doors }, receivers))
+        let nodes = AtomicU64::new(u64::from(nodes));
+        Ok((Post { boxes, nodes }, receivers))
     }
 
     fn letterbox(&self, node: NodeNo) -> Option<&Letterbox> {
@@ -87,7 +87,7 @@ impl Post {
 
     /// The door of one node is done, which each node says once. After the last one every letterbox is closed.
     pub fn leave<R: Wait>(&self, rt: &R) {
-        if self.doors.fetch_sub(1, Ordering::SeqCst) == 1 {
+        if self.nodes.fetch_sub(1, Ordering::SeqCst) == 1 {
             for letterbox in &self.boxes {
                 *letterbox.sender.lock(rt) = None;
             }

@@ -5,7 +5,7 @@ ghost use Rattle.ring_server.specs.Written.{IsReady, IsTried};
 use crate::found::Found;
 use crate::open_node::OpenNode;
 use crate::ready::Ready;
-use crate::unopened::Unopened;
+use crate::unopened::{Place, Unopened};
 use disk_model::{Device, FileDevice};
 
 /// Has the node make a checkpoint, and another one where its area in use was of an earlier layout: then no area of
@@ -34,7 +34,7 @@ fn renew_once(opened: OpenNode<FileDevice>) -> Result<Ready<FileDevice>, Unopene
         Err((device, refusal)) => {
             let cause = device.cause();
             drop(device);
-            Err(Unopened::caused(refusal, cause))
+            Err(Unopened::caused(refusal, Place::Journal, cause))
         }
     }
 }

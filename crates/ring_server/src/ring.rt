@@ -1,13 +1,15 @@
 //! All nodes of a ring, each in threads of its own.
+use crate::log::Log;
 use crate::node::serve_node;
 use crate::post::Post;
 use crate::run_fault::RunFault;
 use crate::shared::Shared;
 use crate::site::Site;
-use crate::start_latch::StartLatch;
-use crate::unopened::{Answer, Place, print_answer};
+use crate::start_latch::{Shortage, StartLatch};
+use crate::unopened::{Place, print_fault};
 use crate::watch::{News, Watch};
 use disk_model::Device;
+use log_lines::{Level, LogForm};
 use ring_records::{NodeNo, Shown};
 use ring_watch::StatusPort;
 use std::alloc::{AllocError, Global};
@@ -19,7 +21,8 @@ use std::thread::{JoinHandle, Scope, Threads};
 use std::time::Clock;
 
 /// A ring that is to be served: its nodes in their order, their letterboxes, the port at which an operator is told of it, if
-/// there is one, whether it ends with the first node that fails, and the folder of its nodes.
+/// there is one, whether it ends with the first node that fails, the folder of its nodes, and what a line on standard error
+/// begins with.
 #[derive(Drop)]
 pub struct Ring<V: Device> {
     pub sites: Vec<Site<V>>,
@@ -27,6 +30,7 @@ pub struct Ring<V: Device> {
     pub status: Option<StatusPort>,
     pub fail_stop: bool,
     pub dir: String,
+    pub log: LogForm,
 }
 
 /// What each node of a ring holds at the end, in their order, `None` where it failed.
@@ -69,7 +73,7 @@ fn start_nodes<'s, N: 's, V: Device + Send + Drop + 's, R: Threads + Wait + Cloc
             .spawn(move || watched_node(rt, node, site, shared))
             .ok();
         if started.is_none() {
-            shared.latch.tell(rt, Err(RunFault::Thread));
+            shared.latch.tell(rt, Err(Shortage::Thread));
         }
         if let Err(refused) = handles.push(started) {
             drop(refused);
@@ -110,8 +114,8 @@ fn run_ring<V: Device + Send + Drop, R: Threads + Wait + Clock + Sync>(
     shared: &Shared,
 ) -> Ends {
     let ends = run_nodes(rt, alloc, sites, shared);
-    if let Err(fault) = &ends {
-        shared.latch.fail(rt, RunFault::Memory(*fault));
+    if ends.is_err() {
+        shared.latch.fail(rt, Shortage::Memory);
     }
     shared.watch.end(rt);
     ends
@@ -125,10 +129,10 @@ fn let_go<R: Threads + Wait + Clock + Send + Copy + 'static, O: Write>(
     shared: &Shared,
     out: &mut O,
 ) -> Result<(), RunFault> {
-    let mut outcome = shared.latch.wait_for_nodes(rt);
-    if outcome.is_ok() {
-        outcome = shared.open_status(rt, alloc);
-    }
+    let mut outcome = match shared.latch.wait_for_nodes(rt) {
+        Ok(()) => shared.open_status(rt, alloc),
+        Err(shortage) => Err(RunFault::from(shortage)),
+    };
     if outcome.is_ok() && (writeln!(out, "serving").is_err() || out.flush().is_err()) {
         outcome = Err(RunFault::Output);
     }
@@ -138,29 +142,35 @@ fn let_go<R: Threads + Wait + Clock + Send + Copy + 'static, O: Write>(
 
 /// Tells of nodes that fail, are full or find no memory, until no node runs any more. Whether it is to end before: at the
 /// first node that fails, where that is asked for. Behind one that fails its file is told, with what the system answered.
-fn tell_of_nodes<R: Wait, E: Write>(
+fn tell_of_nodes<R: Wait + Clock, E: Write>(
     rt: &R,
     watch: &Watch,
     fail_stop: bool,
     dir: &str,
-    err: &mut E,
+    log: &mut Log<'_, R, E>,
 ) -> bool {
     for _ in rt.forever() {
         match watch.next(rt) {
             News::Failed(node, cause) => {
-                let _ = writeln!(err, "ringd: node {node} failed");
-                if let Some(kind) = cause {
-                    let _ = print_answer(err, dir, Place::Journal, node, Answer::Error(kind));
+                let _ = writeln!(log.line(Level::Error), "ringd: node {node} failed");
+                if let Some(fault) = cause {
+                    let _ = print_fault(log, dir, Place::Journal, node, fault);
                 }
                 if fail_stop {
+                    if log.has_notices() {
+                        let _ = writeln!(
+                            log.line(Level::Notice),
+                            "ringd: ends, as node {node} failed"
+                        );
+                    }
                     return true;
                 }
             }
             News::Full(node) => {
-                let _ = writeln!(err, "ringd: node {node} full");
+                let _ = writeln!(log.line(Level::Warning), "ringd: node {node} full");
             }
             News::Starves(node) => {
-                let _ = writeln!(err, "ringd: node {node} memory");
+                let _ = writeln!(log.line(Level::Warning), "ringd: node {node} memory");
             }
             News::Ended => break,
         }
@@ -190,15 +200,23 @@ fn print_ends<O: Write>(out: &mut O, ends: &[Option<Shown>]) -> Result<u8, RunFa
 }
 
 /// Tells how a ring ended that was served, and gives the status.
-fn tell_end<O: Write, E: Write>(out: &mut O, err: &mut E, ends: Ends) -> u8 {
+fn tell_end<O: Write, C: Clock, E: Write>(out: &mut O, log: &mut Log<'_, C, E>, ends: Ends) -> u8 {
     let told = match ends {
         Ok(ends) => print_ends(out, &ends),
         Err(fault) => Err(RunFault::Memory(fault)),
     };
     match told {
-        Ok(status) => status,
+        Ok(status) => {
+            if log.has_notices() {
+                let _ = writeln!(
+                    log.line(Level::Notice),
+                    "ringd: ends, as all doors are done"
+                );
+            }
+            status
+        }
         Err(fault) => {
-            let _ = writeln!(err, "ringd: {fault}");
+            let _ = writeln!(log.line(Level::Error), "ringd: {fault}");
             fault.status()
         }
     }
@@ -222,7 +240,9 @@ pub fn serve_ring<
         status,
         fail_stop,
         dir,
+        log,
     } = ring;
+    let mut log = Log::new(rt, err, log);
     let status = match status {
         Some(status) => Some(Arc::new(alloc, status)?),
         None => None,
@@ -246,10 +266,10 @@ pub fn serve_ring<
         let _ = ring.join(rt);
         return Err(fault);
     }
-    if tell_of_nodes(rt, &shared.watch, fail_stop, dir.as_str(), err) {
+    if tell_of_nodes(rt, &shared.watch, fail_stop, dir.as_str(), &mut log) {
         return Ok(1);
     }
     let ends = ring.join(rt);
     shared.end_status(rt);
-    Ok(tell_end(out, err, ends))
+    Ok(tell_end(out, &mut log, ends))
 }

@@ -7,7 +7,9 @@ ghost use Rattle.ring_server.specs.Fits.{found_as, IsInOrder, Fits};
 use crate::check::tell_ring;
 use crate::folder::Folder;
 use crate::found::Found;
+use crate::identity::{of_ring, open_folder};
 use crate::limits::{look_at_descriptors, look_at_files};
+use crate::log::Log;
 use crate::opening::{find_ring, open_ring};
 use crate::ports::Ports;
 use crate::post::Post;
@@ -15,11 +17,13 @@ use crate::ready::Ready;
 use crate::ring::{Ring, serve_ring};
 use crate::run_fault::RunFault;
 use crate::site::{Doors, Site};
+use crate::tellings::{tell_capacities, tell_identity, tell_kept, tell_start};
 use clap::Error;
 use clap::error::ErrorKind as WordFault;
 use crossbeam_channel::Receiver;
 use disk_model::FileDevice;
-use folder_plan::FolderStep;
+use folder_plan::{FolderStep, Identity};
+use log_lines::{Level, LogForm};
 use ring_records::{NodeNo, Packet};
 use ring_service::{Settings, Words, read_settings, read_words};
 use ring_watch::Inquiry;
@@ -58,11 +62,23 @@ where
         Ok(words) => words,
         Err(error) => return tell_words(&error, out, err),
     };
-    match run(rt, alloc, &Call { said, words }, settings, out, err) {
+    let log = words.log;
+    let mut text = Vec::new(alloc);
+    match run(
+        rt,
+        alloc,
+        &Call { said, words },
+        settings,
+        &mut text,
+        out,
+        err,
+    ) {
         Ok(status) => status,
         Err(fault) => {
-            let _ = writeln!(err, "ringd: {fault}");
-            let _ = fault.print_rule(err);
+            let mut log = Log::new(rt, err, log);
+            let _ = writeln!(log.line(Level::Error), "ringd: {fault}");
+            let _ = fault.print_place(&mut log, alloc, &text);
+            let _ = fault.print_rule(&mut log);
             fault.status()
         }
     }
@@ -97,6 +113,7 @@ fn run<R, I: Read, O: Write, E: Write>(
     alloc: Global,
     call: &Call<'_>,
     settings: &mut I,
+    text: &mut Vec<u8>,
     out: &mut O,
     err: &mut E,
 ) -> Result<u8, RunFault>
@@ -114,13 +131,20 @@ where
     requires leap { IsIn 0 999999999 call.now.words.leap }
 {
     let words = &call.words;
-    let settings = take_settings(rt, alloc, words.settings, settings)?;
+    let settings = take_settings(rt, alloc, words.settings, settings, text)?;
+    *text = Vec::new(alloc);
     if print_settings(out, &settings).is_err() {
         return Err(RunFault::Output);
     }
     let end = match (words.always, words.serve) {
-        _ if words.make => make(rt, alloc, &settings, err),
-        _ if words.check => check(rt, alloc, &settings, out),
+        _ if words.make => make(
+            rt,
+            alloc,
+            &settings,
+            words.ring,
+            &mut Log::new(rt, err, words.log),
+        ),
+        _ if words.check => check(rt, alloc, &settings, words, out),
         (true, _) => serve(rt, alloc, &settings, call, None, out, err),
         (false, Some(count)) => serve(rt, alloc, &settings, call, Some(count), out, err),
         (false, None) => return Ok(0),
@@ -128,21 +152,23 @@ where
     match end {
         Ok(status) => Ok(status),
         Err(fault) => {
-            let _ = writeln!(err, "ringd: {fault}");
-            let _ = fault.print_answer(err, settings.dir.as_str(), words.listen);
+            let mut log = Log::new(rt, err, words.log);
+            let _ = writeln!(log.line(Level::Error), "ringd: {fault}");
+            let _ = fault.print_answer(&mut log, settings.dir.as_str(), words.listen);
             Ok(fault.status())
         }
     }
 }
 
-/// The settings of a file, or of the input where the path is `-`.
+/// The settings of a file, or of the input where the path is `-`, and their text.
 fn take_settings<R: Files<File = File>, I: Read>(
     rt: &R,
     alloc: Global,
     path: &str,
     input: &mut I,
+    text: &mut Vec<u8>,
 ) -> Result<Settings, RunFault> {
-    let bytes = if path == "-" {
+    *text = if path == "-" {
         read_all(alloc, input)?
     } else {
         match File::open(rt, path) {
@@ -150,7 +176,7 @@ fn take_settings<R: Files<File = File>, I: Read>(
             Err(_) => return Err(RunFault::Settings),
         }
     };
-    match str::from_utf8(&bytes) {
+    match str::from_utf8(text) {
         Ok(text) => Ok(read_settings(alloc, text)?),
         Err(_) => Err(RunFault::Settings),
     }
@@ -195,12 +221,14 @@ struct Basis<'a> {
     is_made: bool,
 }
 
-/// How a ring serves: its ports, the doors of each node, and whether it ends with the first node that fails.
+/// How a ring serves: its ports, the doors of each node, whether it ends with the first node that fails, and what a line on
+/// standard error begins with.
 #[derive(Drop)]
 struct Serving {
     ports: Ports,
     doors: Doors,
     fail_stop: bool,
+    log: LogForm,
 }
 
 /// Whether a ring was made in the folder before.
@@ -215,37 +243,32 @@ fn is_made<R: Files<File = File>>(
     }
 }
 
-/// The folder of the settings. Its lock is held until it is let go.
-fn open_folder<'a, R: Files<File = File>>(
-    rt: &R,
-    settings: &'a Settings,
-) -> Result<Folder<'a>, RunFault> {
-    match Folder::open(rt, settings.dir.as_str()) {
-        Ok(folder) => Ok(folder),
-        Err(why) => Err(RunFault::Node(NodeNo::first(), why)),
-    }
-}
-
 /// Looks at the nodes, each of which has to be there, and tells what an audit says of them. Nothing is changed.
 fn check<R: Files<File = File>, O: Write>(
     rt: &R,
     alloc: Global,
     settings: &Settings,
+    words: &Words<'_>,
     out: &mut O,
 ) -> Result<u8, RunFault> {
-    let folder = open_folder(rt, settings)?;
+    let folder = match Folder::look(rt, settings.dir.as_str()) {
+        Ok(folder) => of_ring(rt, alloc, folder, words.ring)?,
+        Err(why) => return Err(RunFault::Node(NodeNo::first(), why)),
+    };
     let found = find_ring(rt, alloc, &folder, settings, true)?;
-    tell_ring(alloc, &found, out)
+    tell_ring(alloc, &found, words.leaders, out)
 }
 
 /// Makes the nodes that are not there, as a start does, and serves nothing. Where it is refused, what it made is gone.
-pub fn make<R: Files<File = File>, E: Write>(
+/// An identity that is asked for is that of a ring that was made before.
+pub fn make<R: Files<File = File>, C: Clock, E: Write>(
     rt: &R,
     alloc: Global,
     settings: &Settings,
-    err: &mut E,
+    ring: Option<Identity>,
+    log: &mut Log<'_, C, E>,
 ) -> Result<u8, RunFault> {
-    let folder = open_folder(rt, settings)?;
+    let folder = open_folder(rt, alloc, settings, ring)?;
     let basis = Basis {
         alloc,
         settings,
@@ -253,10 +276,10 @@ pub fn make<R: Files<File = File>, E: Write>(
         is_made: is_made(rt, alloc, &folder)?,
     };
     let found = find_ring(rt, alloc, &folder, settings, basis.is_made)?;
-    tell_capacities(err, settings, &found);
+    tell_capacities(log, settings, &found);
     look_at_files(&found)?;
     let mut begun = Vec::new(alloc);
-    match make_ready(rt, &basis, found, &mut begun, err) {
+    match make_ready(rt, &basis, found, &mut begun, log) {
         Ok(_) => Ok(0),
         Err(fault) => {
             folder.take_back(rt, alloc, &begun);
@@ -291,7 +314,7 @@ where
 {
     let words = &call.words;
     // Its lock is held until the last node has ended.
-    let folder = open_folder(rt, settings)?;
+    let folder = open_folder(rt, alloc, settings, words.ring)?;
     let basis = Basis {
         alloc,
         settings,
@@ -300,13 +323,15 @@ where
     };
     let existing = basis.is_made || words.existing;
     let found = find_ring(rt, alloc, &folder, settings, existing)?;
-    tell_capacities(err, settings, &found);
+    let mut log = Log::new(rt, err, words.log);
+    tell_capacities(&mut log, settings, &found);
     look_at_files(&found)?;
     look_at_descriptors(settings.nodes, words.doors)?;
     let serving = Serving {
         ports: Ports::listen(rt, alloc, settings, words, call.said)?,
         doors: Doors::new(words.doors, sessions, words.idle).with_leap(words.leap),
         fail_stop: words.fail_stop,
+        log: words.log,
     };
     let mut begun = Vec::new(alloc);
     let end = serve_found(rt, &basis, found, serving, &mut begun, out, err);
@@ -340,7 +365,7 @@ where
     requires count { length found.items ≡ basis.now.settings.now.nodes }
     requires fits { Fits found_as basis.now.settings.now.nodes found.items }
 {
-    let ready = make_ready(rt, basis, found, begun, err)?;
+    let ready = make_ready(rt, basis, found, begun, &mut Log::new(rt, err, serving.log))?;
     let Serving {
         ports: Ports {
             listeners,
@@ -349,6 +374,7 @@ where
         },
         doors,
         fail_stop,
+        log,
     } = serving;
     let alloc = basis.alloc;
     let (post, inboxes) = Post::new(alloc, basis.settings.nodes)?;
@@ -358,17 +384,18 @@ where
         status,
         fail_stop,
         dir: String::from_str(alloc, basis.settings.dir.as_str())?,
+        log,
     };
     serve_ring(rt, alloc, ring, out, err)
 }
 
 /// Makes the nodes ready that were found, and marks the folder as one where a ring was made.
-fn make_ready<R: Files<File = File>, E: Write>(
+fn make_ready<R: Files<File = File>, C: Clock, E: Write>(
     rt: &R,
     basis: &Basis<'_>,
     found: Vec<Found<FileDevice>>,
     begun: &mut Vec<FolderStep>,
-    err: &mut E,
+    log: &mut Log<'_, C, E>,
 ) -> Result<Vec<Ready<FileDevice>>, RunFault>
     requires order { IsInOrder found_as found.items }
     requires count { length found.items ≡ basis.now.settings.now.nodes }
@@ -380,34 +407,16 @@ fn make_ready<R: Files<File = File>, E: Write>(
         folder,
         is_made,
     } = *basis;
+    tell_start(log, &found);
     let ready = open_ring(rt, alloc, folder, settings, found, begun)?;
-    tell_kept(err, &ready);
+    tell_kept(log, &ready);
     if !is_made {
         if let Err(why) = folder.mark_made(rt, alloc, begun) {
             return Err(RunFault::Node(NodeNo::first(), why));
         }
     }
+    tell_identity(rt, alloc, folder, log);
     Ok(ready)
-}
-
-/// Names each node that has another capacity than the settings say, which it keeps.
-fn tell_capacities<E: Write>(err: &mut E, settings: &Settings, ring: &[Found<FileDevice>]) {
-    for node in ring {
-        let (number, capacity) = (node.number(), node.desk().capacity());
-        if capacity != settings.capacity {
-            let _ = writeln!(err, "ringd: node {number} keeps its capacity of {capacity}");
-        }
-    }
-}
-
-/// Names each node of which no checkpoint could be made.
-fn tell_kept<E: Write>(err: &mut E, ring: &[Ready<FileDevice>]) {
-    for ready in ring {
-        if !ready.is_written {
-            let node = ready.opened.number;
-            let _ = writeln!(err, "ringd: node {node} holds what an earlier start wrote");
-        }
-    }
 }
 
 /// A site for each node, in their order, with a clerk where there is one.

@@ -1,11 +1,16 @@
 //! What ends a run of `ringd` before its end.
+use crate::log::Log;
 use crate::unopened::Unopened;
+use disk_model::SystemFault;
+use folder_plan::Identity;
+use log_lines::Level;
 use ring_records::NodeNo;
-use ring_service::{Setting, StartFault};
-use std::alloc::AllocError;
-use std::io;
-use std::io::{ErrorKind, Write};
+use ring_service::{Setting, StartFault, line_of_fault, unknown_key};
+use std::alloc::{AllocError, Global};
+use std::io::Write;
 use std::net::Ipv4Addr;
+use std::time::Clock;
+use std::{io, str};
 use thiserror::Error;
 
 /// Why a run ended early, displayed without the program's name.
@@ -20,6 +25,12 @@ pub enum RunFault {
     /// A node was not opened.
     #[error("node {0}: {1}")]
     Node(NodeNo, Unopened),
+    /// The ring of the folder has this identity, and not the one that is asked for.
+    #[error("the ring is {0}")]
+    OtherRing(Identity),
+    /// The ring of the folder, or the folder, has no identity, and one is asked for.
+    #[error("the ring has no identity")]
+    NoIdentity,
     /// The histories of two nodes are not of one time.
     #[error("nodes {0} and {1} do not fit")]
     Apart(NodeNo, NodeNo),
@@ -29,9 +40,9 @@ pub enum RunFault {
     /// The system lets the process have so many descriptors, and the ring takes so many.
     #[error("{0} descriptors may be had, and the ring takes {1}")]
     Descriptors(u64, u64),
-    /// A port is in use, or not to be had, for a cause of this kind.
+    /// A port is in use, or not to be had: the system answered so.
     #[error("port {0} cannot be used")]
-    Port(u16, ErrorKind),
+    Port(u16, SystemFault),
     /// A line was not printed.
     #[error("output cannot be written")]
     Output,
@@ -46,28 +57,58 @@ pub enum RunFault {
 impl RunFault {
     /// A line of what the system answered, where a node of this folder was not opened for that, or a port of this address
     /// not had.
-    pub(crate) fn print_answer<E: Write>(
+    pub(crate) fn print_answer<C: Clock, E: Write>(
         &self,
-        err: &mut E,
+        log: &mut Log<'_, C, E>,
         dir: &str,
         address: Ipv4Addr,
     ) -> io::Result<()> {
         match self {
-            RunFault::Node(node, why) => why.print(err, dir, *node),
-            RunFault::Port(port, kind) => writeln!(err, "ringd: {address}:{port}: {kind}"),
+            RunFault::Node(node, why) => why.print(log, dir, *node),
+            RunFault::Port(port, fault) => {
+                writeln!(log.line(Level::Error), "ringd: {address}:{port}: {fault}")
+            }
+            _ => Ok(()),
+        }
+    }
+
+    /// A line of where this text of settings is no TOML, or of a key of it that is no setting.
+    pub(crate) fn print_place<C: Clock, E: Write>(
+        &self,
+        log: &mut Log<'_, C, E>,
+        alloc: Global,
+        text: &[u8],
+    ) -> io::Result<()> {
+        let Ok(text) = str::from_utf8(text) else {
+            return Ok(());
+        };
+        match self {
+            RunFault::Start(StartFault::Toml) => match line_of_fault(alloc, text) {
+                Some(line) => writeln!(
+                    log.line(Level::Error),
+                    "ringd: line {line} of the settings"
+                ),
+                None => Ok(()),
+            },
+            RunFault::Start(StartFault::Unknown) => match unknown_key(alloc, text) {
+                Some(key) => writeln!(log.line(Level::Error), "ringd: setting {key} is unknown"),
+                None => Ok(()),
+            },
             _ => Ok(()),
         }
     }
 
     /// A line of what a setting may be, where one is wrong or unknown.
-    pub(crate) fn print_rule<E: Write>(&self, err: &mut E) -> io::Result<()> {
+    pub(crate) fn print_rule<C: Clock, E: Write>(&self, log: &mut Log<'_, C, E>) -> io::Result<()> {
         match self {
             RunFault::Start(StartFault::Wrong(setting)) => {
-                writeln!(err, "ringd: {setting} is {}", values_of(*setting))
+                let values = values_of(*setting);
+                writeln!(log.line(Level::Error), "ringd: {setting} is {values}")
             }
-            RunFault::Start(StartFault::Unknown) => {
-                writeln!(err, "ringd: settings are nodes, dir, port and capacity")
-            }
+            RunFault::Start(StartFault::Unknown) => writeln!(
+                log.line(Level::Error),
+                "ringd: settings are nodes, dir, port and capacity"
+            ),
             _ => Ok(()),
         }
     }

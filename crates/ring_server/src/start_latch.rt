@@ -1,12 +1,37 @@
 //! Where the threads of a ring wait until all of them are there.
 use crate::run_fault::RunFault;
+use std::alloc::AllocError;
 use std::sync::{Condvar, Mutex, Wait};
+
+/// What a node lacks whose threads are not there.
+#[derive(Clone, Copy)]
+pub(crate) enum Shortage {
+    /// The system gave no thread.
+    Thread,
+    /// A growth was refused, or no place was left.
+    Memory,
+}
+
+impl From<AllocError> for Shortage {
+    fn from(_: AllocError) -> Shortage {
+        Shortage::Memory
+    }
+}
+
+impl From<Shortage> for RunFault {
+    fn from(shortage: Shortage) -> RunFault {
+        match shortage {
+            Shortage::Thread => RunFault::Thread,
+            Shortage::Memory => RunFault::Memory(AllocError),
+        }
+    }
+}
 
 /// How far the start of a ring is.
 #[derive(Drop)]
 struct Stage {
     awaited: usize,
-    fault: Option<RunFault>,
+    shortage: Option<Shortage>,
     serves: Option<bool>,
 }
 
@@ -25,7 +50,7 @@ impl StartLatch {
     pub(crate) fn new(nodes: usize) -> StartLatch {
         let stage = Stage {
             awaited: nodes,
-            fault: None,
+            shortage: None,
             serves: None,
         };
         StartLatch {
@@ -35,37 +60,37 @@ impl StartLatch {
         }
     }
 
-    /// A node is ready, or cannot start for this fault. Of several the first one stays.
-    pub(crate) fn tell<R: Wait>(&self, rt: &R, outcome: Result<(), RunFault>) {
+    /// A node is ready, or cannot start for want of this. Of several the first one stays.
+    pub(crate) fn tell<R: Wait>(&self, rt: &R, outcome: Result<(), Shortage>) {
         {
             let mut guard = self.stage.lock(rt);
             let stage = &mut *guard;
             stage.awaited = stage.awaited.saturating_sub(1);
-            if stage.fault.is_none() {
-                stage.fault = outcome.err();
+            if stage.shortage.is_none() {
+                stage.shortage = outcome.err();
             }
         }
         self.told.notify_all();
     }
 
-    /// No node tells any more, for this fault.
-    pub(crate) fn fail<R: Wait>(&self, rt: &R, fault: RunFault) {
+    /// No node tells any more, for want of this.
+    pub(crate) fn fail<R: Wait>(&self, rt: &R, shortage: Shortage) {
         {
             let mut guard = self.stage.lock(rt);
             let stage = &mut *guard;
             stage.awaited = 0;
-            stage.fault = Some(fault);
+            stage.shortage = Some(shortage);
         }
         self.told.notify_all();
     }
 
-    /// Waits until each node has told. Refused with a fault that one of them told.
-    pub(crate) fn wait_for_nodes<R: Wait>(&self, rt: &R) -> Result<(), RunFault> {
+    /// Waits until each node has told. Refused with what one of them lacks.
+    pub(crate) fn wait_for_nodes<R: Wait>(&self, rt: &R) -> Result<(), Shortage> {
         let stage = self
             .told
             .wait_while(rt, self.stage.lock(rt), |stage| stage.awaited > 0);
-        match stage.fault {
-            Some(fault) => Err(fault),
+        match stage.shortage {
+            Some(shortage) => Err(shortage),
             None => Ok(()),
         }
     }

@@ -1,9 +1,15 @@
 //! Why a node was not opened, and what the system answered.
+use crate::log::Log;
+use disk_model::{OpenFault, SystemCall, SystemFault, asked};
+use log_lines::Level;
 use ring_records::{Cause, NodeNo, Refusal};
 use std::alloc::AllocError;
-use std::fs::TryLockError;
 use std::io::{ErrorKind, Write};
+use std::time::Clock;
 use std::{fmt, io};
+
+/// Where the system draws by chance.
+pub(crate) const CHANCE: &str = "/dev/urandom";
 
 /// Which file of a node the system was asked for.
 #[derive(Clone, Copy, Debug, PartialEq, Eq)]
@@ -12,6 +18,10 @@ pub enum Place {
     Folder,
     /// `ring.made` in it.
     Mark,
+    /// `ring.id` in it.
+    Identity,
+    /// What the system draws by chance.
+    Chance,
     /// `node-I.crj` in it.
     Journal,
     /// `node-I.crj.new` in it.
@@ -19,74 +29,77 @@ pub enum Place {
 }
 
 impl Place {
-    /// Its path within the folder, where it is not the folder itself.
-    fn print<E: Write>(self, err: &mut E, node: NodeNo) -> io::Result<()> {
+    /// Its path, of this node in this folder.
+    fn print<E: Write>(self, err: &mut E, dir: &str, node: NodeNo) -> io::Result<()> {
         match self {
-            Place::Folder => Ok(()),
-            Place::Mark => write!(err, "/ring.made"),
-            Place::Journal => write!(err, "/node-{node}.crj"),
-            Place::New => write!(err, "/node-{node}.crj.new"),
+            Place::Folder => write!(err, "{dir}"),
+            Place::Mark => write!(err, "{dir}/ring.made"),
+            Place::Identity => write!(err, "{dir}/ring.id"),
+            Place::Chance => write!(err, "{CHANCE}"),
+            Place::Journal => write!(err, "{dir}/node-{node}.crj"),
+            Place::New => write!(err, "{dir}/node-{node}.crj.new"),
         }
     }
 }
 
-/// What the system answered.
+/// What is told beside a refusal.
 #[derive(Clone, Copy, Debug, PartialEq, Eq)]
-pub enum Answer {
-    /// An error of this kind.
-    Error(ErrorKind),
-    /// Somebody else holds its lock.
-    InUse,
+pub enum Told {
+    /// The system refused a call of this file so.
+    Fault(Place, SystemFault),
+    /// No call was refused: this is told of what is there, or is not.
+    Found(Place, ErrorKind),
+    /// The journal is of this layout, which is newer than all that this program reads.
+    Newer(u8),
 }
 
-impl fmt::Display for Answer {
-    fn fmt<W: fmt::Write>(&self, f: &mut fmt::Formatter<W>) -> fmt::Result {
-        match self {
-            Answer::Error(kind) => write!(f, "{kind}"),
-            Answer::InUse => f.write_str("in use"),
-        }
+/// What the call of this file gave, or why the node is not opened.
+pub(crate) fn ask<T>(place: Place, call: SystemCall, answer: io::Result<T>) -> Result<T, Unopened> {
+    match asked(call, answer) {
+        Ok(value) => Ok(value),
+        Err(fault) => Err(Unopened::at(place, fault)),
     }
 }
 
-impl From<io::Error> for Answer {
-    fn from(error: io::Error) -> Answer {
-        Answer::Error(error.kind())
-    }
-}
-
-impl From<TryLockError> for Answer {
-    fn from(error: TryLockError) -> Answer {
-        match error {
-            TryLockError::Error(error) => Answer::Error(error.kind()),
-            TryLockError::WouldBlock => Answer::InUse,
-        }
-    }
-}
-
-/// A line of what the system answered of this file of a node in this folder.
-pub(crate) fn print_answer<E: Write>(
-    err: &mut E,
+/// A line of how the system refused a call of this file of a node in this folder.
+pub(crate) fn print_fault<C: Clock, E: Write>(
+    log: &mut Log<'_, C, E>,
     dir: &str,
     place: Place,
     node: NodeNo,
-    answer: Answer,
+    fault: SystemFault,
 ) -> io::Result<()> {
-    write!(err, "ringd: {dir}")?;
-    place.print(err, node)?;
-    writeln!(err, ": {answer}")
+    let err = log.line(Level::Error);
+    write!(err, "ringd: ")?;
+    place.print(err, dir, node)?;
+    writeln!(err, ": {fault}")
+}
+
+/// A line of what is told of this file of a node in this folder.
+fn print_found<C: Clock, E: Write>(
+    log: &mut Log<'_, C, E>,
+    dir: &str,
+    place: Place,
+    node: NodeNo,
+    kind: ErrorKind,
+) -> io::Result<()> {
+    let err = log.line(Level::Error);
+    write!(err, "ringd: ")?;
+    place.print(err, dir, node)?;
+    writeln!(err, ": {kind}")
 }
 
 /// Why a node was not opened: the refusal of its journal or its desk, 15 with one failure where the system refused its
 /// file, and 8. Where the system refused something, what that was and what it answered; where the file is there and not
-/// this node's, that it is `invalid data`.
+/// this node's, that it is `invalid data`, or of a newer layout.
 #[derive(Clone, Copy, Debug)]
 pub struct Unopened {
     pub refusal: Refusal,
-    pub told: Option<(Place, Answer)>,
+    pub told: Option<Told>,
 }
 
 impl Unopened {
-    /// Of this refusal, of which the system told nothing.
+    /// Of this refusal, of which nothing is told.
     pub fn new(refusal: Refusal) -> Unopened {
         Unopened {
             refusal,
@@ -94,25 +107,22 @@ impl Unopened {
         }
     }
 
-    /// Of this refusal; where the system was asked again, it answered so.
-    pub fn because(refusal: Refusal, place: Place, again: Result<(), Answer>) -> Unopened {
+    /// Of this refusal of a file, which the system answered so, where it answered anything.
+    pub(crate) fn caused(refusal: Refusal, place: Place, cause: Option<SystemFault>) -> Unopened {
         Unopened {
             refusal,
-            told: match again {
-                Ok(()) => None,
-                Err(answer) => Some((place, answer)),
+            told: match cause {
+                Some(fault) => Some(Told::Fault(place, fault)),
+                None => None,
             },
         }
     }
 
-    /// Of this refusal of its file, which the system answered so, where it answered anything.
-    pub(crate) fn caused(refusal: Refusal, cause: Option<ErrorKind>) -> Unopened {
-        Unopened {
-            refusal,
-            told: match cause {
-                Some(kind) => Some((Place::Journal, Answer::Error(kind))),
-                None => None,
-            },
+    /// Of this file, which was not opened.
+    pub(crate) fn closed(place: Place, fault: OpenFault) -> Unopened {
+        match fault {
+            OpenFault::Device(fault) => Unopened::at(place, fault),
+            OpenFault::Memory => Unopened::new(Refusal::OutOfMemory),
         }
     }
 
@@ -120,22 +130,32 @@ impl Unopened {
     pub fn gone() -> Unopened {
         Unopened {
             refusal: Refusal::NotFormatted,
-            told: Some((Place::Journal, Answer::Error(ErrorKind::NotFound))),
+            told: Some(Told::Found(Place::Journal, ErrorKind::NotFound)),
         }
     }
 
     /// The system refused this file or folder so.
-    pub fn at(place: Place, answer: Answer) -> Unopened {
+    pub fn at(place: Place, fault: SystemFault) -> Unopened {
         Unopened {
             refusal: Refusal::Device(1),
-            told: Some((place, answer)),
+            told: Some(Told::Fault(place, fault)),
         }
     }
 
-    /// A line of what the system refused and what it answered, of this node in this folder, where it told something.
-    pub fn print<E: Write>(&self, err: &mut E, dir: &str, node: NodeNo) -> io::Result<()> {
+    /// A line of what is told beside the refusal, of this node in this folder, where something is.
+    pub(crate) fn print<C: Clock, E: Write>(
+        &self,
+        log: &mut Log<'_, C, E>,
+        dir: &str,
+        node: NodeNo,
+    ) -> io::Result<()> {
         match self.told {
-            Some((place, answer)) => print_answer(err, dir, place, node, answer),
+            Some(Told::Fault(place, fault)) => print_fault(log, dir, place, node, fault),
+            Some(Told::Found(place, kind)) => print_found(log, dir, place, node, kind),
+            Some(Told::Newer(layout)) => writeln!(
+                log.line(Level::Error),
+                "ringd: node {node}: layout {layout} is newer than this ringd"
+            ),
             None => Ok(()),
         }
     }

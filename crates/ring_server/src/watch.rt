@@ -1,13 +1,13 @@
 //! What the threads of a ring have the program tell while they serve.
+use disk_model::SystemFault;
 use ring_records::NodeNo;
-use std::io::ErrorKind;
 use std::sync::{Condvar, Mutex, Wait};
 
 /// What is to be told of the ring.
 #[derive(Clone, Copy)]
 pub(crate) enum News {
     /// This node has failed, with what the system answered, where that is known.
-    Failed(NodeNo, Option<ErrorKind>),
+    Failed(NodeNo, Option<SystemFault>),
     /// This node refused a message for want of room.
     Full(NodeNo),
     /// This node's rounds have been refused for a while for want of memory.
@@ -45,7 +45,7 @@ impl Word {
 #[derive(Drop)]
 struct Book {
     failed: [Word; 16],
-    causes: [Option<ErrorKind>; 16],
+    causes: [Option<SystemFault>; 16],
     full: [Word; 16],
     starves: [Word; 16],
     has_ended: bool,
@@ -53,7 +53,7 @@ struct Book {
 
 impl Book {
     /// The node has failed so. A cause that is known already stays.
-    fn fail(&mut self, node: NodeNo, cause: Option<ErrorKind>) {
+    fn fail(&mut self, node: NodeNo, cause: Option<SystemFault>) {
         if let Some(told) = self.causes.get_mut(place(node)) {
             *told = told.or(cause);
         }
@@ -63,7 +63,7 @@ impl Book {
     }
 
     /// What the system answered to this node.
-    fn cause(&self, node: NodeNo) -> Option<ErrorKind> {
+    fn cause(&self, node: NodeNo) -> Option<SystemFault> {
         match self.causes.get(place(node)) {
             Some(cause) => *cause,
             None => None,
@@ -125,7 +125,7 @@ impl Watch {
     }
 
     /// The node has failed, with what the system answered, where that is known.
-    pub(crate) fn fail<R: Wait>(&self, rt: &R, node: NodeNo, cause: Option<ErrorKind>) {
+    pub(crate) fn fail<R: Wait>(&self, rt: &R, node: NodeNo, cause: Option<SystemFault>) {
         self.book.lock(rt).fail(node, cause);
         self.bell.notify_all();
     }

@@ -6,7 +6,7 @@ use std::time::Clock;
 
 /// Sends all that the successor has not credited durably: before the node takes its first input of a run.
 pub(crate) fn send_window<A: Node, R: Wait>(rt: &R, hub: &Hub<A>, links: &Links<'_>) {
-    if let Ok(window) = hub.window(rt) {
+    if let Ok((window, _begun)) = hub.window(rt) {
         links.send_all(rt, &window);
     }
 }
@@ -20,7 +20,7 @@ pub(crate) fn send_what_may_miss<A: Node, R: Wait + Clock>(
     if !links.may_have_lost(rt) {
         return;
     }
-    if let Ok(window) = hub.window(rt) {
+    if let Ok((window, _begun)) = hub.window(rt) {
         links.send_again(rt, &window);
     }
 }

@@ -4,6 +4,7 @@ ghost use Rattle.std.specs.Prelude.{◌≤◌};
 use crate::clients::{answers, connect};
 use crate::programs::Ended;
 use disk_model::{Device, FuseDevice, MemDevice};
+use log_lines::LogForm;
 use node_store::Node;
 use ring_records::{Bid, GroupName, Key, NodeNo, Refusal, Request, Term};
 use ring_server::{Doors, OpenNode, Post, Ring, Site, serve_ring};
@@ -192,6 +193,7 @@ fn port_of<R: AllocGlobal + Net<Listener = TcpListener, Stream = TcpStream>>(
         started: 0,
         words: String::new(rt.alloc()),
         idle: 0,
+        statm: None,
     };
     Some(StatusPort::new(listener, facts, reception, 0))
 }
@@ -236,6 +238,7 @@ pub fn serve_three<
         status: told,
         fail_stop: served.fail_stop,
         dir: String::from_str(alloc, "ring").expect(rt, "memory"),
+        log: LogForm::Plain,
     };
     let status = serve_ring(rt, alloc, ring, &mut out, &mut err);
     let Seen { text, len: _ } = err;

@@ -114,7 +114,11 @@ pub fn keeps_a_door<R: Net<Stream = TcpStream> + Clock + AllocGlobal>(
         && answers(&two, b"latest red\n", b"none")
         && ends_behind(rt, port, 10)
         && ends_behind(rt, port, 1)
-        && is_answered(rt, told_at, NotWell(b"\r\n\r\nnode 1 has no door free\n"))
+        && is_answered(
+            rt,
+            told_at,
+            NotWell(b"\r\n\r\nnode 1 has no door free\nhelp: give more doors, or less idle time\n"),
+        )
         && is_answered(rt, told_at, Target("/status", b"\"doorless\":[1],"))
         && asks(rt, port, b"latest red\n", b"none")
         && answers(&one, b"latest red\n", b"none")

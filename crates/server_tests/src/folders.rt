@@ -1,9 +1,10 @@
 // Folders as a kill, a fault or an operator left them.
 use crate::steps::Change::{
-    Anew, Clears, Has, IsEmpty, MakesFolder, Removes, RemovesFolder, Renames, Writes,
+    Alters, Anew, Clears, Copies, Has, Holds, IsCopy, IsEmpty, MakesFolder, Removes, RemovesFolder,
+    Renames, Writes,
 };
 use crate::steps::Step::{Changes, Ends, EndsBesideLock, Serves};
-use crate::steps::{SERVE, Step, plays};
+use crate::steps::{CHECK, SERVE, Step, plays};
 use std::test::*;
 
 /// A journal of node 1 of two with a capacity of 65,536: a header, the head of area A in epoch 1, a snapshot of no inputs,
@@ -53,9 +54,9 @@ const REFUSED: &[u8] = b"nodes = 2\ndir = \"refused\"\nport = 7155\n";
 
 const REFUSED_3: &[u8] = b"nodes = 3\ndir = \"refused\"\nport = 7155\n";
 
-const LOCKED_FILE: &[u8] = b"ringd: node 2: device 1\nringd: refused/node-2.crj: in use\n";
+const LOCKED_FILE: &[u8] = b"ringd: node 2: device 1\nringd: refused/node-2.crj: lock: in use\n";
 
-const LOCKED_FOLDER: &[u8] = b"ringd: node 1: device 1\nringd: refused: in use\n";
+const LOCKED_FOLDER: &[u8] = b"ringd: node 1: device 1\nringd: refused: lock: in use\n";
 
 static REFUSALS: [Step; 18] = [
     Changes(&[Anew("refused")]),
@@ -124,6 +125,58 @@ static REFUSALS: [Step; 18] = [
 #[test]
 fn journals_that_are_refused(rt: HostRuntime) {
     plays(&rt, &REFUSALS);
+}
+
+/// A journal of node 1 of two with a capacity of 4,096, whose first area is of this layout, up to that.
+const FIRST_AREA: &[u8] = b"CRJRNL02\x01\x02\x00\x00\x10\x00\x00\x00\x01\x04";
+
+const NEWER: &[u8] = b"nodes = 2\ndir = \"newer\"\nport = 7285\ncapacity = 4096\n";
+
+const NEWER_4: &[u8] =
+    b"ringd: node 1: damaged 16\nringd: node 1: layout 4 is newer than this ringd\n";
+
+const NEWER_5: &[u8] =
+    b"ringd: node 1: damaged 16\nringd: node 1: layout 5 is newer than this ringd\n";
+
+const NEWER_NOT: &[u8] = b"ringd: node 1: damaged 16\nringd: newer/node-1.crj: invalid data\n";
+
+/// The gate, the layout and the epoch of an area, closed, of this layout and of later ones.
+const AREA_1: &[u8] = b"\x01\x03\x00\x00\x00\x00\x00\x00\x00\x01\x00";
+
+const CLOSED_1: &[u8] = b"\x00\x04\x00\x00\x00\x00\x00\x00\x00\x01\x00";
+
+const AREA_2: &[u8] = b"\x01\x03\x00\x00\x00\x00\x00\x00\x00\x02\x00";
+
+const NEWER_2: &[u8] = b"\x01\x05\x00\x00\x00\x00\x00\x00\x00\x02\x00";
+
+const CLOSED_2: &[u8] = b"\x00\x05\x00\x00\x00\x00\x00\x00\x00\x02\x00";
+
+static LATER: [Step; 11] = [
+    Changes(&[Anew("newer"), Writes("newer/node-1.crj", FIRST_AREA)]),
+    Ends(SERVE, NEWER, 1, NEWER_4),
+    Changes(&[Holds("newer/node-1.crj", FIRST_AREA), Anew("newer")]),
+    Serves(NEWER, 7285, b"stand red 5 10\n", b"stood"),
+    Serves(NEWER, 7285, b"stand red 5 10\n", b"no 3 already 10"),
+    // the second area, beside one that is closed
+    Changes(&[
+        Alters("newer/node-1.crj", AREA_1, CLOSED_1),
+        Alters("newer/node-1.crj", AREA_2, NEWER_2),
+        Copies("newer/node-1.crj", "newer/copy"),
+    ]),
+    Ends(CHECK, NEWER, 1, NEWER_5),
+    Ends(SERVE, NEWER, 1, NEWER_5),
+    // a closed one is of no layout
+    Changes(&[
+        IsCopy("newer/node-1.crj", "newer/copy"),
+        Alters("newer/node-1.crj", NEWER_2, CLOSED_2),
+    ]),
+    Ends(SERVE, NEWER, 1, NEWER_NOT),
+    Changes(&[Clears("newer")]),
+];
+
+#[test]
+fn journals_of_a_newer_layout(rt: HostRuntime) {
+    plays(&rt, &LATER);
 }
 
 const GONE: &[u8] = b"nodes = 2\ndir = \"gone\"\nport = 7221\n";
@@ -232,12 +285,14 @@ fn nodes_that_have_to_be_there(rt: HostRuntime) {
 
 const ANSWERS: &[u8] = b"nodes = 2\ndir = \"answers\"\nport = 7167\n";
 
-const FOLDER_OLD: &[u8] = b"ringd: node 1: device 1\nringd: answers/node-1.crj: is a directory\n";
+const FOLDER_OLD: &[u8] =
+    b"ringd: node 1: device 1\nringd: answers/node-1.crj: open: Is a directory (os error 21)\n";
 
 const FOLDER_NEW: &[u8] =
-    b"ringd: node 1: device 1\nringd: answers/node-1.crj.new: is a directory\n";
+    b"ringd: node 1: device 1\nringd: answers/node-1.crj.new: remove: Is a directory (os error 21)\n";
 
-const NO_FOLDER: &[u8] = b"ringd: node 1: device 1\nringd: answers/ring.made: not a directory\n";
+const NO_FOLDER: &[u8] =
+    b"ringd: node 1: device 1\nringd: answers/ring.made: stat: Not a directory (os error 20)\n";
 
 static SYSTEM: [Step; 9] = [
     // a folder where a file is to be, old and new

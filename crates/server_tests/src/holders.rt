@@ -111,6 +111,14 @@ const HOLDS: &[Say] = &[
             b"\"present\":true,\"resigned\":false,\"text\":\"host a,  pid 7\"}",
         ),
     ),
+    Line(b"tell red <b>&\n", b"told"),
+    Meanwhile(
+        7375,
+        Target(
+            "/groups/red",
+            b"<tr><th>text</th><td>&lt;b&gt;&amp;</td></tr>\n",
+        ),
+    ),
     Line(LONGEST, b"told"),
     Line(b"tell red \n", b"no 25 line"),
     Line(b"tell red\n", b"no 25 line"),

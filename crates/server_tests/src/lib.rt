@@ -26,6 +26,10 @@ mod holders;
 #[cfg(test)]
 mod http;
 #[cfg(test)]
+mod identities;
+#[cfg(test)]
+mod logs;
+#[cfg(test)]
 mod looks;
 #[cfg(test)]
 mod news;

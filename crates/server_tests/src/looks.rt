@@ -1,4 +1,5 @@
 // Rings that are looked at, and messages that two files have differently.
+use crate::programs::run;
 use crate::steps::Change::{Alters, Anew, Clears, Copies, Has, IsCopy, Renames};
 use crate::steps::Step::{Changes, Elects, Ends, Looks};
 use crate::steps::{CHECK, SERVE, Step, plays};
@@ -123,4 +124,34 @@ static RING: [Step; 18] = [
 #[test]
 fn a_look_at_a_ring(rt: HostRuntime) {
     plays(&rt, &RING);
+}
+
+const LEADING: &[u8] = b"nodes = 2\ndir = \"leading\"\nport = 7281\n";
+
+const LEADERS: &[&str] = &["ringd", "--check", "--leaders"];
+
+/// The latest of each node, and none of an earlier term.
+const LATEST: [&str; 2] = [
+    "node 1 red term 6 leader 1 10",
+    "node 2 red term 6 leader 1 10",
+];
+
+#[test]
+fn leaders_that_a_look_tells(rt: HostRuntime) {
+    plays(
+        &rt,
+        &[
+            Changes(&[Anew("leading")]),
+            Elects(LEADING, 7281, TWO, ASKS_TWO),
+        ],
+    );
+    let ended = run(&rt, LEADERS, LEADING);
+    assert!(&rt; ended.status == 0);
+    let text = str::from_utf8(&ended.out).expect(&rt, "text");
+    let told = text.lines().filter(|line| line.contains(" leader "));
+    assert!(&rt; told.count() == 2);
+    for line in &LATEST {
+        assert!(&rt; text.lines().any(|other| other == *line));
+    }
+    plays(&rt, &[Changes(&[Clears("leading")])]);
 }

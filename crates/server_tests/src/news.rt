@@ -14,7 +14,7 @@ use std::test::*;
 use std::thread::Threads;
 use std::time::Clock;
 
-const FAILED: &[u8] = b"ringd: node 2 failed\nringd: ring/node-2.crj: other error\n";
+const FAILED: &[u8] = b"ringd: node 2 failed\nringd: ring/node-2.crj: write: other error\n";
 
 /// A ring whose node 2 fails.
 const ONE_FAILS: Served = Served {

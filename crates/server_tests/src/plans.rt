@@ -1,7 +1,9 @@
 // In which order the files of a ring are made and taken back, by the calls of `ringd --make`.
 use crate::fake::{Fake, Lack, Trick};
 use crate::steps::anew;
-use ring_server::{Answer, Place, RunFault, Unopened, make};
+use disk_model::{SystemCall, SystemFault};
+use log_lines::LogForm;
+use ring_server::{Log, Place, RunFault, Told, Unopened, make};
 use ring_service::read_settings;
 use std::alloc::AllocGlobal;
 use std::cell::Cell;
@@ -11,6 +13,7 @@ use std::io::ErrorKind;
 use std::process::Abort;
 use std::rt::Files;
 use std::test::*;
+use std::time::Clock;
 
 const NOTHING: Trick = Trick {
     path: "",
@@ -20,7 +23,7 @@ const NOTHING: Trick = Trick {
 
 /// What `ringd --make` is told of a file, or `None` where it is not refused, by these settings over a folder, with this
 /// trick. Its calls are listed at `log`.
-fn made<R: Abort + AllocGlobal + Files<File = File>>(
+fn made<R: Abort + AllocGlobal + Clock + Files<File = File>>(
     rt: &R,
     settings: &str,
     log: &str,
@@ -38,7 +41,8 @@ fn made<R: Abort + AllocGlobal + Files<File = File>>(
         panic!(rt; "settings that are taken");
     };
     let mut err = Vec::new(rt.alloc());
-    match make(&fake, rt.alloc(), &settings, &mut err) {
+    let mut log = Log::new(rt, &mut err, LogForm::Plain);
+    match make(&fake, rt.alloc(), &settings, None, &mut log) {
         Ok(_) => None,
         Err(RunFault::Node(_, unopened)) => Some(unopened),
         Err(_) => panic!(rt; "no fault of a node"),
@@ -61,6 +65,9 @@ remove planned/node-2.crj.new
 open planned/node-2.crj.new
 open planned
 rename planned/node-2.crj.new
+open planned/ring.id
+open /dev/urandom
+open planned/ring.id
 open planned/ring.made
 ";
 
@@ -73,6 +80,20 @@ fn the_calls_that_make_a_ring(rt: HostRuntime) {
     fs::remove_dir_all(&rt, "planned").expect(&rt, "a folder");
 }
 
+/// What the system answers to a sync of what it syncs not.
+const UNSYNCED: SystemFault = SystemFault {
+    call: SystemCall::Sync,
+    kind: ErrorKind::InvalidInput,
+    number: Some(22),
+};
+
+/// What it answers to a write to what was opened to be read alone.
+const UNWRITABLE: SystemFault = SystemFault {
+    call: SystemCall::Write,
+    kind: ErrorKind::Uncategorized,
+    number: Some(9),
+};
+
 const UNNAMED: &[u8] = b"open unnamed
 remove unnamed/node-1.crj.new
 open unnamed/node-1.crj.new
@@ -82,10 +103,14 @@ remove unnamed/node-2.crj.new
 open unnamed/node-2.crj.new
 open unnamed
 rename unnamed/node-2.crj.new
+open unnamed/ring.id
+open /dev/urandom
+open unnamed/ring.id
 remove unnamed/node-1.crj.new
 remove unnamed/node-1.crj
 remove unnamed/node-2.crj.new
 remove unnamed/node-2.crj
+remove unnamed/ring.id
 ";
 
 /// Names that are not on the disk are taken back, and there is no `ring.made`.
@@ -101,15 +126,13 @@ fn names_that_are_not_synced(rt: HostRuntime) {
     let Some(unopened) = made(&rt, settings, "unnamed.log", trick) else {
         panic!(&rt; "not refused");
     };
-    let invalid = Answer::Error(ErrorKind::InvalidInput);
-    assert!(&rt; unopened.told == Some((Place::Folder, invalid)));
+    assert!(&rt; unopened.told == Some(Told::Fault(Place::Folder, UNSYNCED)));
     listed(&rt, "unnamed.log", UNNAMED);
     fs::remove_dir(&rt, "unnamed").expect(&rt, "an empty folder");
 }
 
 const UNSTABLE: &[u8] = b"open unstable
 remove unstable/node-1.crj.new
-open unstable/node-1.crj.new
 open unstable/node-1.crj.new
 remove unstable/node-1.crj.new
 ";
@@ -124,7 +147,10 @@ fn a_new_file_that_is_not_synced(rt: HostRuntime) {
         turn: 1,
         lack: Lack::Sync,
     };
-    assert!(&rt; made(&rt, settings, "unstable.log", trick).is_some());
+    let Some(unopened) = made(&rt, settings, "unstable.log", trick) else {
+        panic!(&rt; "not refused");
+    };
+    assert!(&rt; unopened.told == Some(Told::Fault(Place::New, UNSYNCED)));
     listed(&rt, "unstable.log", UNSTABLE);
     fs::remove_dir(&rt, "unstable").expect(&rt, "an empty folder");
 }
@@ -133,7 +159,6 @@ const UNLISTED: &[u8] = b"open unlisted
 remove unlisted/node-1.crj.new
 open unlisted/node-1.crj.new
 open unlisted
-open unlisted/node-1.crj.new
 remove unlisted/node-1.crj.new
 ";
 
@@ -147,7 +172,10 @@ fn the_name_of_a_new_file_that_is_not_synced(rt: HostRuntime) {
         turn: 2,
         lack: Lack::Sync,
     };
-    assert!(&rt; made(&rt, settings, "unlisted.log", trick).is_some());
+    let Some(unopened) = made(&rt, settings, "unlisted.log", trick) else {
+        panic!(&rt; "not refused");
+    };
+    assert!(&rt; unopened.told == Some(Told::Fault(Place::New, UNSYNCED)));
     listed(&rt, "unlisted.log", UNLISTED);
     fs::remove_dir(&rt, "unlisted").expect(&rt, "an empty folder");
 }
@@ -156,7 +184,6 @@ const UNWRITTEN: &[u8] = b"open unwritten
 remove unwritten/node-1.crj.new
 open unwritten/node-1.crj.new
 open unwritten
-open unwritten/node-1.crj.new
 remove unwritten/node-1.crj.new
 ";
 
@@ -170,7 +197,10 @@ fn a_new_file_that_is_not_written(rt: HostRuntime) {
         turn: 1,
         lack: Lack::Write,
     };
-    assert!(&rt; made(&rt, settings, "unwritten.log", trick).is_some());
+    let Some(unopened) = made(&rt, settings, "unwritten.log", trick) else {
+        panic!(&rt; "not refused");
+    };
+    assert!(&rt; unopened.told == Some(Told::Fault(Place::New, UNWRITABLE)));
     listed(&rt, "unwritten.log", UNWRITTEN);
     fs::remove_dir(&rt, "unwritten").expect(&rt, "an empty folder");
 }
@@ -194,7 +224,7 @@ fn a_checkpoint_that_is_not_written(rt: HostRuntime) {
     let Some(unopened) = made(&rt, settings, "kept.log", trick) else {
         panic!(&rt; "not refused");
     };
-    assert!(&rt; matches!(unopened.told, Some((Place::Journal, Answer::Error(_)))));
+    assert!(&rt; unopened.told == Some(Told::Fault(Place::Journal, UNWRITABLE)));
     listed(&rt, "kept.log", KEPT);
     fs::remove_dir_all(&rt, "kept").expect(&rt, "a folder");
 }

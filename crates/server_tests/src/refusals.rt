@@ -22,8 +22,15 @@ const NO_FILE: &[&str] = &["ringd", "--settings", "no-such-file"];
 const UNREAD: &[u8] = b"ringd: settings cannot be read\n";
 
 /// What the settings are, and what is told of them.
-static SETTINGS: [(&[u8], &[u8]); 10] = [
-    (b"nodes = ", b"ringd: settings are not TOML\n"),
+static SETTINGS: [(&[u8], &[u8]); 11] = [
+    (
+        b"nodes = ",
+        b"ringd: settings are not TOML\nringd: line 1 of the settings\n",
+    ),
+    (
+        b"nodes = 3\ndir = \"a\"\nport 7101\ncapacity = 4096\n",
+        b"ringd: settings are not TOML\nringd: line 3 of the settings\n",
+    ),
     (b"\xff", UNREAD),
     (b"", b"ringd: setting nodes is missing\n"),
     (
@@ -51,7 +58,8 @@ static SETTINGS: [(&[u8], &[u8]); 10] = [
     ),
     (
         b"nodes = 3\ndir = \"a\"\nport = 1\nx = 1\n",
-        b"ringd: a setting is unknown\nringd: settings are nodes, dir, port and capacity\n",
+        b"ringd: a setting is unknown\nringd: setting x is unknown\n\
+          ringd: settings are nodes, dir, port and capacity\n",
     ),
 ];
 
@@ -157,7 +165,8 @@ fn words(rt: HostRuntime) {
 
 const NO_FOLDER: &[u8] = b"nodes = 3\ndir = \"no-such-folder\"\nport = 7141\n";
 
-const NOT_FOUND: &[u8] = b"ringd: node 1: device 1\nringd: no-such-folder: entity not found\n";
+const NOT_FOUND: &[u8] =
+    b"ringd: node 1: device 1\nringd: no-such-folder: open: No such file or directory (os error 2)\n";
 
 const IN_USE: &[u8] = b"nodes = 2\ndir = \"in-use\"\nport = 7143\n";
 
@@ -168,7 +177,7 @@ static NOT_THERE: [Step; 4] = [
         7144,
         SERVE,
         IN_USE,
-        b"ringd: port 7144 cannot be used\nringd: 127.0.0.1:7144: address in use\n",
+        b"ringd: port 7144 cannot be used\nringd: 127.0.0.1:7144: listen: Address already in use (os error 98)\n",
     ),
     Changes(&[Clears("in-use")]),
 ];

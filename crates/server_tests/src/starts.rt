@@ -172,10 +172,11 @@ const TAKEN: &[u8] = b"nodes = 2\ndir = \"taken\"\nport = 7311\n";
 
 const TAKEN_STATUS: &[&str] = &["ringd", "--serve", "1", "--status", "7313"];
 
-const NO_DOOR: &[u8] = b"ringd: port 7312 cannot be used\nringd: 127.0.0.1:7312: address in use\n";
+const NO_DOOR: &[u8] =
+    b"ringd: port 7312 cannot be used\nringd: 127.0.0.1:7312: listen: Address already in use (os error 98)\n";
 
 const NO_STATUS: &[u8] =
-    b"ringd: port 7313 cannot be used\nringd: 127.0.0.1:7313: address in use\n";
+    b"ringd: port 7313 cannot be used\nringd: 127.0.0.1:7313: listen: Address already in use (os error 98)\n";
 
 static TAKEN_PORTS: [Step; 10] = [
     // of a new ring nothing is made
@@ -206,7 +207,8 @@ fn a_port_that_is_taken(rt: HostRuntime) {
 
 const HALF: &[u8] = b"nodes = 2\ndir = \"half\"\nport = 7315\n";
 
-const NO_FILE: &[u8] = b"ringd: node 2: device 1\nringd: half/node-2.crj.new: is a directory\n";
+const NO_FILE: &[u8] =
+    b"ringd: node 2: device 1\nringd: half/node-2.crj.new: remove: Is a directory (os error 21)\n";
 
 static HALF_MADE: [Step; 5] = [
     Changes(&[Anew("half"), MakesFolder("half/node-2.crj.new")]),

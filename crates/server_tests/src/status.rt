@@ -1,7 +1,7 @@
 // What an operator is told of a ring while it serves.
 use crate::clients::connect;
 use crate::devices::Served;
-use crate::http::Question::{AtLast as Told, NotWell, Target, Whole};
+use crate::http::Question::{AtLast as Told, NotWell, Status, Target, Whole};
 use crate::http::{has_status, is_told_at_last, is_whole};
 use crate::programs::{Ring, Scenario, runs};
 use crate::steps::Change::{Anew, Clears};
@@ -145,6 +145,52 @@ const OPEN: &[Say] = &[
         Told("/metrics", b"\ncinoweta_elections_total{node=\"1\"} 1\n"),
     ),
     Meanwhile(7230, Target("/live", b"live\n")),
+    Meanwhile(7230, Target("/ready", b"ready\n")),
+    Meanwhile(
+        7230,
+        Status(
+            b"GET / HTTP/1.1\r\n\r\n",
+            b"200 OK\r\nContent-Type: text/html; charset=utf-8\r\n",
+            b"<a href=\"/groups/red\">red</a></th><td>5</td><td>1</td><td>10</td></tr>\n</table>\n</body>\n</html>\n",
+        ),
+    ),
+    Meanwhile(
+        7230,
+        Target(
+            "/groups/red",
+            b"<tr><th>leader</th><td>node 1, bid 10</td></tr>\n<tr><th>present</th><td>yes</td></tr>\n",
+        ),
+    ),
+    Meanwhile(
+        7230,
+        Status(
+            b"GET /groups/blue HTTP/1.1\r\n\r\n",
+            b"404 ",
+            b"\r\n\r\n404 Not Found\n",
+        ),
+    ),
+    // of the process, as Linux tells it
+    Meanwhile(
+        7230,
+        Target(
+            "/metrics",
+            b"\n# TYPE process_resident_memory_bytes gauge\nprocess_resident_memory_bytes ",
+        ),
+    ),
+    Meanwhile(
+        7230,
+        Target(
+            "/metrics",
+            b"\n# TYPE process_open_fds gauge\nprocess_open_fds ",
+        ),
+    ),
+    Meanwhile(
+        7230,
+        Target(
+            "/metrics",
+            b"\n# TYPE process_max_fds gauge\nprocess_max_fds ",
+        ),
+    ),
     Meanwhile(7230, Whole(b"GET /health HTTP/1.1\r\n\r\n", WELL)),
     Meanwhile(7230, Whole(b"HEAD /health HTTP/1.1\r\n\r\n", HEAD_OF_WELL)),
     Line(b"bye\n", b"bye"),
@@ -343,7 +389,20 @@ const NOT_WELL: Scenario = Scenario {
     visits: [
         &[
             Visit::StandsUntilItFails(7248),
-            Visit::Operator(7245, NotWell(b"\r\n\r\nnode 2 failed\n")),
+            Visit::Operator(
+                7245,
+                NotWell(b"\r\n\r\nnode 2 failed\nhelp: see the disk, and start ringd again\n"),
+            ),
+            Visit::Operator(
+                7245,
+                Status(
+                    b"GET /ready HTTP/1.1\r\n\r\n",
+                    b"503 ",
+                    b"\r\n\r\nnode 2 failed\n",
+                ),
+            ),
+            Visit::Operator(7245, Target("/live", b"live\n")),
+            Visit::Operator(7245, Target("/", b"It cannot elect.")),
             Visit::Operator(
                 7245,
                 Target(
@@ -357,7 +416,11 @@ const NOT_WELL: Scenario = Scenario {
                 7245,
                 Target("/metrics", b"\ncinoweta_writing_seconds{node=\"2\"} 0\n"),
             ),
-            Visit::StandsUntil(7247, 7245, b"\r\n\r\nnode 1 full\nnode 2 failed\n"),
+            Visit::StandsUntil(
+                7247,
+                7245,
+                b"\r\n\r\nnode 1 full\nnode 2 failed\nhelp: see the disk, and start ringd again\n",
+            ),
             // its snapshot takes more than a quarter of the capacity, so no checkpoint comes
             Visit::Operator(
                 7245,
@@ -390,13 +453,13 @@ static PORTS_IN_USE: [Step; 4] = [
         7251,
         &["ringd", "--serve", "1", "--status", "7251"],
         IN_USE,
-        b"ringd: port 7251 cannot be used\nringd: 127.0.0.1:7251: address in use\n",
+        b"ringd: port 7251 cannot be used\nringd: 127.0.0.1:7251: listen: Address already in use (os error 98)\n",
     ),
     Ends(
         &["ringd", "--serve", "1", "--status", "7252"],
         IN_USE,
         1,
-        b"ringd: port 7252 cannot be used\nringd: 127.0.0.1:7252: address in use\n",
+        b"ringd: port 7252 cannot be used\nringd: 127.0.0.1:7252: listen: Address already in use (os error 98)\n",
     ),
     Changes(&[Clears("port")]),
 ];

@@ -1,5 +1,6 @@
 // A folder whose sync the system refuses.
-use ring_server::{Answer, Folder, Place};
+use disk_model::{SystemCall, SystemFault};
+use ring_server::{Folder, Place, Told};
 use std::fs;
 use std::io::ErrorKind;
 use std::os::unix::fs::symlink;
@@ -22,8 +23,13 @@ fn a_sync_of_the_folder_that_fails_is_told(rt: HostRuntime) {
         Ok(()) => None,
         Err(unopened) => unopened.told,
     };
-    let invalid = Answer::Error(ErrorKind::InvalidInput);
-    assert!(rt; told == Some((Place::Folder, invalid)));
+    let invalid = SystemFault {
+        call: SystemCall::Sync,
+        kind: ErrorKind::InvalidInput,
+        number: Some(22),
+    };
+    assert!(rt; told == Some(Told::Fault(Place::Folder, invalid)));
     // No name is known to be on the disk, so nothing says that all are.
+    fs::remove_file(&rt, "unsynced/ring.id").expect(&rt, "an identity");
     fs::remove_dir(&rt, UNSYNCED).expect(&rt, "an empty folder");
 }

@@ -5,7 +5,7 @@ use Rattle.gated_journal.specs.Areas.{AllReadAs}
 use Rattle.gated_journal.specs.Reading.{fresh_area}
 use Rattle.group_commit.specs.Desk.{DeskKept, known_all}
 use Rattle.node_store.specs.Node.{desk_of, member_of, device_of}
-use Rattle.ring_server.proofs.folder.format.Goals as goal
+use Rattle.ring_server.proofs.node_file.format.Goals as goal
 
 pub returns-in-Ok-clause-holds : goal.returns-in-Ok-clause-holds
 returns-in-Ok-clause-holds c =
