@@ -4,7 +4,7 @@ ghost use Rattle.std.specs.Prelude.{◌≡◌, ◌≤◌};
 use crate::fault::Fault;
 use crate::locked::{Leaders, Lock, Locked};
 use crate::race::{Latest, Publisher, Reader, decision, first_decisions, race};
-use crate::words::{ended, next_amount, next_word, tell};
+use crate::words::{next_amount, next_word, tell};
 use decision_board::{Board, BoardReader, Naming, Opened, is_reader_count};
 use ring_records::{Decision, GroupName, Notice, Refusal};
 use std::alloc::Global;
@@ -25,42 +25,30 @@ pub fn run<R: Threads + Wait + Sync>(
     words: &mut Args,
 ) -> Result<(), Fault> {
     let work = next_word(words)?;
-    let is_done = does(rt, threads, words, work.as_str());
-    ended(work, is_done)
-}
-
-/// Does the work of this word. Whether there is one.
-fn does<R: Threads + Wait + Sync>(
-    rt: &HostRuntime,
-    threads: &R,
-    words: &mut Args,
-    work: &str,
-) -> Result<bool, Fault> {
     let alloc = rt.alloc();
-    match work {
+    match work.as_str() {
         "shared" => {
             let load = next_load(words)?;
             let found = shared::<Brand, R>(threads, alloc, Opened::new(), load)?;
-            tell(rt, "found", found)?;
+            tell(rt, "found", found)
         }
         "mutex" => tell(
             rt,
             "found",
             behind_mutex(threads, alloc, next_load(words)?)?,
-        )?,
+        ),
         "rwlock" => tell(
             rt,
             "found",
             behind_rwlock(threads, alloc, next_load(words)?)?,
-        )?,
+        ),
         "append" => {
             let keys = next_amount(words)?;
             let publishes = append::<Brand, R>(threads, alloc, Opened::new(), keys)?;
-            tell(rt, "publishes", publishes)?;
+            tell(rt, "publishes", publishes)
         }
-        _ => return Ok(false),
+        _ => Err(Fault::NoSuch(work, "work of this part")),
     }
-    Ok(true)
 }
 
 /// How many readers there are, and how often each reads.

@@ -84,7 +84,7 @@ impl From<DeviceFault> for Fault {
 impl From<OpenFault> for Fault {
     fn from(fault: OpenFault) -> Fault {
         match fault {
-            OpenFault::Device => Fault::File,
+            OpenFault::Device(_) => Fault::File,
             OpenFault::Memory => Fault::Memory,
         }
     }

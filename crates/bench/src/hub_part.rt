@@ -10,7 +10,7 @@ use crate::devices::{CAPACITY, in_memory, next_file};
 use crate::fault::Fault;
 use crate::keys::key;
 use crate::race::sum;
-use crate::words::{ended, next_amount, next_word, tell};
+use crate::words::{next_amount, next_word, tell};
 use commit_hub::{Blanks, Hub, Node, Share};
 use decision_board::{Board, Naming, Opened};
 use disk_model::{Device, DeviceFault};
@@ -44,24 +44,12 @@ pub fn run<R: Threads + Wait + Sync>(
     words: &mut Args,
 ) -> Result<(), Fault> {
     let work = next_word(words)?;
-    let is_done = does(rt, threads, words, work.as_str());
-    ended(work, is_done)
-}
-
-/// Does the work of this word. Whether there is one.
-fn does<R: Threads + Wait + Sync>(
-    rt: &HostRuntime,
-    threads: &R,
-    words: &mut Args,
-    work: &str,
-) -> Result<bool, Fault> {
-    match work {
-        "memory" => memory(rt, threads, words)?,
-        "file" => on_file(rt, threads, words)?,
-        "bare" => bare(rt, words)?,
-        _ => return Ok(false),
+    match work.as_str() {
+        "memory" => memory(rt, threads, words),
+        "file" => on_file(rt, threads, words),
+        "bare" => bare(rt, words),
+        _ => Err(Fault::NoSuch(work, "work of this part")),
     }
-    Ok(true)
 }
 
 /// Hubs over nodes in memory.
@@ -217,7 +205,7 @@ fn question(index: u32) -> Result<Request, Refusal> {
 /// Waits for the reply to the ticket's question. Whether the node stood.
 fn has_stood<A: Node, R: Wait>(rt: &R, hub: &Hub<A>, ticket: Ticket) -> Result<bool, Refusal> {
     match hub.redeem_wait(rt, ticket) {
-        Ok((reply, _stub)) => Ok(matches!(reply, Reply::Stood)),
+        Ok((reply, _stub, _begun)) => Ok(matches!(reply, Reply::Stood)),
         Err((ticket, refusal)) => {
             let _ = hub.forfeit(rt, ticket);
             Err(refusal)

@@ -1,7 +1,7 @@
 // Journals that take batches of 64 inputs, and are opened again.
 use crate::devices::{CAPACITY, in_memory, next_file, write_bare};
 use crate::fault::Fault;
-use crate::words::{ended, next_amount, next_word, tell};
+use crate::words::{next_amount, next_word, tell};
 use disk_model::{Device, MemDevice};
 use gated_journal::{Batch, Journal};
 use ring_records::{Bid, GroupName, Input, Key, NodeNo, Refusal, Term};
@@ -20,20 +20,13 @@ const FRAME: [u8; 1671] = [7; 1671];
 /// no journal. Both print how many bytes the file has then.
 pub fn run(rt: &HostRuntime, words: &mut Args) -> Result<(), Fault> {
     let work = next_word(words)?;
-    let is_done = does(rt, words, work.as_str());
-    ended(work, is_done)
-}
-
-/// Does the work of this word. Whether there is one.
-fn does(rt: &HostRuntime, words: &mut Args, work: &str) -> Result<bool, Fault> {
-    match work {
-        "memory" => tell(rt, "journals", memory(rt.alloc(), next_amount(words)?)?)?,
-        "reopen" => tell(rt, "read", reopen(rt.alloc(), next_amount(words)?)?)?,
-        "file" => tell(rt, "bytes", on_file(rt, words)?)?,
-        "bare" => tell(rt, "bytes", bare(rt, words)?)?,
-        _ => return Ok(false),
+    match work.as_str() {
+        "memory" => tell(rt, "journals", memory(rt.alloc(), next_amount(words)?)?),
+        "reopen" => tell(rt, "read", reopen(rt.alloc(), next_amount(words)?)?),
+        "file" => tell(rt, "bytes", on_file(rt, words)?),
+        "bare" => tell(rt, "bytes", bare(rt, words)?),
+        _ => Err(Fault::NoSuch(work, "work of this part")),
     }
-    Ok(true)
 }
 
 /// A Stand for a group of the longest name: a record of 26 bytes.

@@ -10,7 +10,7 @@ ghost use Rattle.node_store.specs.Node.{desk_of};
 
 use crate::devices::{CAPACITY, in_memory, next_file, write_bare};
 use crate::fault::Fault;
-use crate::words::{ended, next_amount, next_word, tell};
+use crate::words::{next_amount, next_word, tell};
 use disk_model::Device;
 use group_commit::Ticket;
 use node_store::Node;
@@ -30,21 +30,14 @@ const FRAME: [u8; 1415] = [7; 1415];
 /// many flushes do, with no node, and prints how many bytes it has then. `checkpoint ..`: see `checkpoints::run`.
 pub fn run(rt: &HostRuntime, words: &mut Args) -> Result<(), Fault> {
     let work = next_word(words)?;
-    let is_done = does(rt, words, work.as_str());
-    ended(work, is_done)
-}
-
-/// Does the work of this word. Whether there is one.
-fn does(rt: &HostRuntime, words: &mut Args, work: &str) -> Result<bool, Fault> {
-    match work {
-        "memory" => tell(rt, "packets", memory(rt.alloc(), next_amount(words)?)?)?,
-        "recover" => tell(rt, "recovered", recover(rt.alloc(), next_amount(words)?)?)?,
-        "file" => tell(rt, "packets", on_file(rt, words)?)?,
-        "bare" => tell(rt, "bytes", bare(rt, words)?)?,
-        "checkpoint" => checkpoints::run(rt, words)?,
-        _ => return Ok(false),
+    match work.as_str() {
+        "memory" => tell(rt, "packets", memory(rt.alloc(), next_amount(words)?)?),
+        "recover" => tell(rt, "recovered", recover(rt.alloc(), next_amount(words)?)?),
+        "file" => tell(rt, "packets", on_file(rt, words)?),
+        "bare" => tell(rt, "bytes", bare(rt, words)?),
+        "checkpoint" => checkpoints::run(rt, words),
+        _ => Err(Fault::NoSuch(work, "work of this part")),
     }
-    Ok(true)
 }
 
 /// What a node is asked, one input after the other.

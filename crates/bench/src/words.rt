@@ -18,21 +18,6 @@ pub fn next_amount(words: &mut Args) -> Result<u32, Fault> {
     amount(next_word(words)?)
 }
 
-/// How a work of this word ends, once it was done or was none of the part's. Refused with the word where it was none.
-pub fn ended(work: String, is_done: Result<bool, Fault>) -> Result<(), Fault> {
-    match is_done {
-        Ok(true) => {
-            drop(work);
-            Ok(())
-        }
-        Ok(false) => Err(Fault::NoSuch(work, "work of this part")),
-        Err(fault) => {
-            drop(work);
-            Err(fault)
-        }
-    }
-}
-
 /// The word as a number, 0 to 2^32 - 1. Refused with the word where it is no such number.
 pub fn amount(word: String) -> Result<u32, Fault> {
     match word.parse::<u32>() {

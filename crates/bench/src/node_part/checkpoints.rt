@@ -2,7 +2,7 @@
 use super::{INPUTS, Load, end, fill, flush};
 use crate::devices::{CAPACITY, in_memory, next_file};
 use crate::fault::Fault;
-use crate::words::{ended, next_amount, next_word, tell};
+use crate::words::{next_amount, next_word, tell};
 use disk_model::{Device, DeviceFault};
 use node_store::Node;
 use ring_records::{NodeNo, Refusal};
@@ -17,19 +17,12 @@ const AREA: usize = 165_149;
 /// three syncs each, to a new file with no node, and prints how many bytes it has then.
 pub fn run(rt: &HostRuntime, words: &mut Args) -> Result<(), Fault> {
     let work = next_word(words)?;
-    let is_done = does(rt, words, work.as_str());
-    ended(work, is_done)
-}
-
-/// Does the work of this word. Whether there is one.
-fn does(rt: &HostRuntime, words: &mut Args, work: &str) -> Result<bool, Fault> {
-    match work {
-        "memory" => tell(rt, "epoch", memory(rt.alloc(), next_amount(words)?)?)?,
-        "file" => tell(rt, "epoch", on_file(rt, words)?)?,
-        "bare" => tell(rt, "bytes", bare(rt, words)?)?,
-        _ => return Ok(false),
+    match work.as_str() {
+        "memory" => tell(rt, "epoch", memory(rt.alloc(), next_amount(words)?)?),
+        "file" => tell(rt, "epoch", on_file(rt, words)?),
+        "bare" => tell(rt, "bytes", bare(rt, words)?),
+        _ => Err(Fault::NoSuch(work, "work of this part")),
     }
-    Ok(true)
 }
 
 /// So many checkpoints of a new node on the device. Tells its epoch then.

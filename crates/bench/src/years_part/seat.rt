@@ -169,7 +169,7 @@ fn add(sent: &mut Vec<Packet>, packets: &[Packet]) -> Result<(), Refusal> {
 /// Redeems a ticket whose inputs are durable. Refused where the reply is a refusal.
 fn redeem<A: Node, R: Wait>(rt: &R, hub: &Hub<A>, ticket: Ticket) -> Result<(), Refusal> {
     match hub.redeem_wait(rt, ticket) {
-        Ok((Reply::Refused(refusal), _stub)) => Err(refusal),
+        Ok((Reply::Refused(refusal), _stub, _begun)) => Err(refusal),
         Ok(_) => Ok(()),
         Err((ticket, refusal)) => {
             let _ = hub.forfeit(rt, ticket);

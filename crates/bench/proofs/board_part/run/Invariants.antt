@@ -1,4 +1,4 @@
-use Rattle.bench.proofs.board_part.does.Given as goal
+use Rattle.bench.proofs.board_part.run.Given as goal
 
 -- the history that was just begun
 abbrev pub ghosts-shared : goal.ghosts-shared
