@@ -106,7 +106,14 @@ func Health(ctx context.Context, host string, port int) ([]string, error) {
 	case code == http.StatusOK:
 		return nil, nil
 	case code == http.StatusServiceUnavailable:
-		return strings.FieldsFunc(string(text), func(letter rune) bool { return letter == '\n' }), nil
+		var faults []string
+		for _, line := range strings.Split(string(text), "\n") {
+			// Behind them stands what helps.
+			if strings.HasPrefix(line, "node ") {
+				faults = append(faults, line)
+			}
+		}
+		return faults, nil
 	default:
 		return nil, noStatus(host, port, "/health", code)
 	}

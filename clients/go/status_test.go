@@ -51,7 +51,7 @@ func TestHealth(t *testing.T) {
 	faults, err := Health(background(t), "", status(t, pages{"/health": {http.StatusOK, "well\n"}}))
 	must(t, err)
 	same(t, len(faults), 0)
-	for _, text := range []string{"node 2 failed\nnode 3 full\n", "node 2 failed\nnode 3 full"} {
+	for _, text := range []string{"node 2 failed\nnode 3 full\nhelp: see the disk, and start ringd again\n", "node 2 failed\nnode 3 full"} {
 		faults, err := Health(background(t), "", status(t, pages{"/health": {http.StatusServiceUnavailable, text}}))
 		must(t, err)
 		same(t, faults, []string{"node 2 failed", "node 3 full"})

@@ -7,7 +7,6 @@
 """
 import asyncio
 import contextlib
-import http.client
 import threading
 import time
 from collections.abc import AsyncIterator, Callable, Coroutine
@@ -159,7 +158,7 @@ class AsyncRing(Asking):
             raise NoAnswer(f"{self.host}: no port of ringd --status is told")
         try:
             return await self.unless_over(self.page(self.status, path), seconds)
-        except (OSError, http.client.HTTPException) as fault:
+        except (OSError, ValueError) as fault:
             raise NoAnswer(f"{self.where(path)}: {fault or type(fault).__name__}") from None
 
     async def unless_over(self, steps: Coroutine[Any, Any, Result], seconds: float) -> Result:

@@ -15,6 +15,8 @@ TRIES = 10
 # So long a try waits behind one that failed, in seconds: any part of it.
 BREAK = 0.2
 MADE = "ring.made"
+# Not there where an earlier ringd made the ring.
+IDENTITY = "ring.id"
 NODE = re.compile(r"node-([1-9]\d*)\.crj")
 
 
@@ -57,8 +59,9 @@ def backup(folder: str, to: str, ringd: str = "ringd") -> tuple[list[str], int]:
 
 
 def copy(source: pathlib.Path, to: pathlib.Path, count: int) -> None:
-    """The files of all nodes, read as close to each other as can be, and then written and synced."""
+    """The files of all nodes, read as close to each other as can be, and then written and synced, with the identity."""
     names = [f"node-{number}.crj" for number in range(1, count + 1)]
+    names += [IDENTITY] if (source / IDENTITY).exists() else []
     for name, content in [(name, (source / name).read_bytes()) for name in names] + [(MADE, b"")]:
         with open(to / name, "xb") as file:
             os.fchmod(file.fileno(), 0o600)

@@ -1,6 +1,5 @@
 """What `ringd --status PORT` tells of a ring, over HTTP."""
 import contextlib
-import http.client
 import io
 import json
 import re
@@ -39,7 +38,7 @@ def ask(host: str, port: int, path: str, seconds: float, stop: Stop = Stop()) ->
                     break
                 told += part
         return read(told)
-    except (OSError, ValueError, http.client.HTTPException) as fault:
+    except (OSError, ValueError) as fault:
         raise NoAnswer(f"{host}:{port}{path}: {fault or type(fault).__name__}") from None
 
 
@@ -63,10 +62,16 @@ class Page(io.BytesIO):
 
 
 def read(told: bytes) -> tuple[int, str]:
-    """The status and the text of a whole answer."""
+    """The status and the text of a whole answer; a ValueError where it is none."""
+    # Only who asks the status port waits for what this loads, which is more than all else.
+    import http.client
+
     answer = http.client.HTTPResponse(Page(told))  # type: ignore[arg-type]
-    answer.begin()
-    return answer.status, answer.read(LONGEST).decode("utf-8", "replace")
+    try:
+        answer.begin()
+        return answer.status, answer.read(LONGEST).decode("utf-8", "replace")
+    except http.client.HTTPException as fault:
+        raise ValueError(f"{fault or type(fault).__name__}") from None
 
 
 class Sight(NamedTuple):
@@ -87,7 +92,8 @@ def health(port: int, seconds: float = 5.0, *, host: str = OWN) -> list[str]:
 def read_health(where: str, code: int, text: str) -> list[str]:
     if code not in (200, 503):
         raise WrongRing(f"{where} answers {code}: is it that of ringd --status?")
-    return text.splitlines() if code == 503 else []
+    # Behind them stands what helps.
+    return [line for line in text.splitlines() if line.startswith("node ")] if code == 503 else []
 
 
 def status(port: int, seconds: float = 5.0, *, host: str = OWN) -> dict[str, Any]:

@@ -62,7 +62,8 @@ class BackupTest(unittest.TestCase):
         self.assertEqual([line.split()[:2] for line in lines[:3]], [["node", "1"], ["node", "2"], ["node", "3"]])
         self.assertLessEqual(tries, TRIES)
         self.assertEqual({path.name for path in (self.folder / "copy").iterdir()},
-                         {"node-1.crj", "node-2.crj", "node-3.crj", "ring.made"})
+                         {"node-1.crj", "node-2.crj", "node-3.crj", "ring.id", "ring.made"})
+        self.assertEqual((self.folder / "copy" / "ring.id").read_bytes(), (self.ring / "ring.id").read_bytes())
         self.restart(self.folder / "copy")
         with Ring.parse(self.served.ports) as ring:
             for node, terms in enumerate(before, 1):

@@ -47,7 +47,7 @@ class BesideStatus(unittest.TestCase):
 class StatusTest(BesideStatus):
     def test_health(self) -> None:
         self.assertEqual(status.health(self.serve({"/health": (200, "well\n")})), [])
-        for text in ("node 2 failed\nnode 3 full\n", "node 2 failed\nnode 3 full"):
+        for text in ("node 2 failed\nnode 3 full\nhelp: see the disk, and start ringd again\n", "node 2 failed\nnode 3 full"):
             self.assertEqual(status.health(self.serve({"/health": (503, text)})), ["node 2 failed", "node 3 full"])
         with self.assertRaises(WrongRing):
             status.health(self.serve({}))
