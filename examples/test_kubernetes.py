@@ -10,10 +10,11 @@ import sys
 import tempfile
 import textwrap
 import unittest
+import urllib.request
 
 HERE = pathlib.Path(__file__).resolve().parent
 sys.path.insert(0, str(HERE.parent / "clients" / "python"))
-from tests.served import RINGD, require
+from tests.served import RINGD, Served, require
 
 setUpModule = require
 TEXT = (HERE / "kubernetes.yml").read_text(encoding="utf-8")
@@ -46,7 +47,7 @@ class KubernetesTest(unittest.TestCase):
         self.assertEqual([*self.volume.iterdir()], [])
         self.assertEqual(self.make("yes").returncode, 0)
         made = {path.name: path.read_bytes() for path in (self.volume / "state").iterdir()}
-        self.assertEqual(set(made), {"node-1.crj", "node-2.crj", "node-3.crj", "ring.made"})
+        self.assertEqual(set(made), {"node-1.crj", "node-2.crj", "node-3.crj", "ring.id", "ring.made"})
         for begin in ("no", "yes"):
             self.assertEqual(self.make(begin).returncode, 0)
             self.assertEqual({path.name: path.read_bytes() for path in (self.volume / "state").iterdir()}, made)
@@ -65,6 +66,15 @@ class KubernetesTest(unittest.TestCase):
         named = {int(found) for found in re.findall(r"containerPort: (\d+)", TEXT)}
         self.assertEqual(named, {port - 1, *range(port, port + nodes)})
         self.assertIn('"--status", "7100"', TEXT)
+
+    def test_the_probes_ask_what_is_told(self) -> None:
+        probes = dict(re.findall(r"(\w+)Probe: \{httpGet: \{path: (/\w+), port: 7100\}", TEXT))
+        self.assertEqual(probes, {"startup": "/live", "liveness": "/live", "readiness": "/ready"})
+        ring = Served()
+        self.addCleanup(ring.end)
+        for path in probes.values():
+            with urllib.request.urlopen(f"http://127.0.0.1:{ring.status}{path}", timeout=10) as answer:
+                self.assertEqual((answer.status, answer.read()), (200, f"{path[1:]}\n".encode()))
 
 
 if __name__ == "__main__":

@@ -41,7 +41,8 @@ FURTHER, PATIENCE = "further", 2.0
 # Files that did not change for so long, in seconds, are those of a ring at rest.
 REST = 0.1
 REFUSED = re.compile(
-    r"ringd: (node [1-3]: (unformatted|wrongnode|damaged \d+|unlawful \d+)\nringd: \S+: invalid data|nodes [1-3] and [1-3] do not fit)\n"
+    r"ringd: (node [1-3]: (unformatted|wrongnode|damaged \d+|unlawful \d+)\n"
+    r"ringd: (\S+: invalid data|node [1-3]: layout \d+ is newer than this ringd)|nodes [1-3] and [1-3] do not fit)\n"
 )
 
 # A node and a line that it was sent.

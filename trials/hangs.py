@@ -28,7 +28,7 @@ from short import Failed, free_ports
 HANG = 10
 EARLY, LATE = 0.5, 2.0
 NODE = 2
-WELL, HANGS = (200, "well\n", 0), (503, f"node {NODE} hangs\n", 1)
+WELL, HANGS = (200, "well\n", 0), (503, f"node {NODE} hangs\nhelp: see the disk\n", 1)
 
 
 class Seen(NamedTuple):

@@ -252,7 +252,7 @@ class Start:
             self.made.discard(path)
             return
         self.is_marked = self.is_marked or path == self.mark
-        if is_new and found is None and call.result is None and self.names.unstable:
+        if is_new and path == self.mark and call.result is None and self.names.unstable:
             self.fault("starts", "ring.made is made, and a name before it is not stable")
         if is_new:
             self.names.add(call, path)

@@ -17,7 +17,7 @@ PARTS = [
     (rb"\r?\n", rb"\r?"),
 ]
 FIELD = (rb"%s+:[\t -~\x80-\xff]*\r?\n" % TOKEN, rb"%s+(?::[\t -~\x80-\xff]*\r?)?|\r?" % TOKEN)
-PAGES = (b"/live", b"/health", b"/status", b"/metrics")
+PAGES = (b"/live", b"/ready", b"/health", b"/status", b"/metrics", b"/")
 
 
 def request(head: bytes) -> int | tuple[bytes, bytes] | None:
@@ -87,6 +87,8 @@ def status_of(target: bytes) -> int:
     path, mark, query = target.partition(b"?")
     if path in PAGES:
         return 200
+    if path.startswith(b"/groups/"):
+        return 400 if not lines.NAME.fullmatch(path[8:]) else 200 if path[8:] == b"red" else 404
     if path == b"/leaders":
         first, also, second = query.partition(b"&")
         after = second if also else first
@@ -155,7 +157,8 @@ class Heads(Kind):
 
     def differs(self, case: list[bytes]) -> str | None:
         sent = b"".join(case)
-        if waited(sent) > 1:
+        # The client ends its side behind the head, and who waits is left then.
+        if waited(sent):
             return None
         right = right_status(sent)
         cut = len(sent) // 2 if len(sent) % 3 == 0 else 0
@@ -201,6 +204,6 @@ QUERIES = [b"", b"node=1", b"node=3", b"node=4", b"node=0", b"node=16", b"node=1
 
 
 def target(rng: random.Random) -> bytes:
-    path = rng.choice([*PAGES, b"/leaders", b"/leaders", b"/leaders/red", b"/leaders/blue", b"/leaders/", b"/leaders/Red", b"/", b"*", b"/heal",
-                       b"/health/", b"//health", b"/leaders/abcdefghijklmnopq", b"/leaders/red/", b"http://a/health", b"/%68ealth", b"/\xc3\xa4"])
+    path = rng.choice([*PAGES, b"/leaders", b"/leaders", b"/leaders/red", b"/leaders/blue", b"/leaders/", b"/leaders/Red", b"*", b"/heal",
+                       b"/groups/red", b"/groups/blue", b"/groups/Red", b"/groups/", b"/groups", b"/health/", b"//health", b"/leaders/abcdefghijklmnopq", b"/leaders/red/", b"http://a/health", b"/%68ealth", b"/\xc3\xa4"])
     return path + (b"?" + rng.choice(QUERIES) if rng.random() < 0.5 else b"")

@@ -8,6 +8,8 @@ from programs import Kind
 
 WHOLE = range(-2**63, 2**63)
 NO_TOML = b"ringd: settings are not TOML\n"
+# Which line it is stands behind that: another reader may see it a line later.
+LINE = re.compile(rb"ringd: line \d+ of the settings\n")
 # What is TOML 1.1, which ringd takes, and may be none to tomllib, which takes 1.0 and Python's dates.
 NEWER = re.compile(rb"\\[xe]|\{[^}]*[,\n]\s*\}|\{[^}]*\n|\d\d:\d\d|0000-|^\xef\xbb\xbf")
 
@@ -35,8 +37,12 @@ def is_within(value: object, low: int, high: int) -> bool:
     return type(value) is int and low <= value <= high
 
 
+def is_printed(text: bytes, most: int) -> bool:
+    return 1 <= len(text) <= most and all(0x21 <= each <= 0x7E for each in text)
+
+
 def is_path(value: object) -> bool:
-    return isinstance(value, str) and 1 <= len(value.encode()) <= 200 and all(0x21 <= ord(each) <= 0x7E for each in value)
+    return isinstance(value, str) and is_printed(value.encode(), 200)
 
 
 def told(text: bytes) -> tuple[int, bytes, bytes]:
@@ -59,8 +65,10 @@ def told(text: bytes) -> tuple[int, bytes, bytes]:
         if not is_right:
             told = f"wrong\nringd: {key} is {MAY_BE[key]}" if key in table else "missing"
             return 2, b"", f"ringd: setting {key} is {told}\n".encode()
-    if set(table) != {"nodes", "dir", "port", "capacity"}:
-        return 2, b"", b"ringd: a setting is unknown\nringd: settings are nodes, dir, port and capacity\n"
+    unknown = sorted(key.encode() for key in set(table) - set(MAY_BE))
+    if unknown:
+        shown = b"ringd: setting %s is unknown\n" % unknown[0] if is_printed(unknown[0], 64) else b""
+        return 2, b"", b"ringd: a setting is unknown\n" + shown + b"ringd: settings are nodes, dir, port and capacity\n"
     return 0, "".join(f"{key} {table[key]}\n" for key in ("nodes", "dir", "port", "capacity")).encode(), b""
 
 
@@ -89,7 +97,8 @@ class Settings(Kind):
         ended = self.programs.run([self.programs.ringd], text)
         right = told(text)
         is_newer = right[2] == NO_TOML and NEWER.search(text)
-        return ended.fault or (None if is_newer or ended[:3] == right else f"{ended[:3]}, and not {right}")
+        same = (*ended[:2], LINE.sub(b"", ended.err)) == right
+        return ended.fault or (None if is_newer or same else f"{ended[:3]}, and not {right}")
 
 
 GAPS = [b" ", b" ", b"", b"\t", b"  "]

@@ -5,8 +5,9 @@ import re
 from programs import Kind
 
 NUMBERS = {b"serve": (1, 1_000), b"doors": (1, 32), b"idle": (0, 86_400), b"status": (1, 65_535), b"watchers": (0, 64)}
-FLAGS = {b"always", b"existing", b"fail-stop", b"make", b"check"}
-TEXTS = {b"settings", b"listen"}
+FLAGS = {b"always", b"existing", b"fail-stop", b"make", b"check", b"leaders"}
+TEXTS = {b"settings", b"listen", b"ring", b"log"}
+FORMS = {b"plain": rb"", b"journal": rb"<3>", b"time": rb"\d{4}-\d\d-\d\dT\d\d:\d\d:\d\dZ error "}
 BYTE = rb"(?:25[0-5]|2[0-4]\d|1\d\d|[1-9]?\d)"
 WRONG, HELP, VERSION, TAKEN = "wrong", "help", "version", "taken"
 
@@ -54,11 +55,18 @@ def outcome(words: list[bytes]) -> str:
         return WRONG
     if b"check" in said and said.keys() & {b"serve", b"always"}:
         return WRONG
-    if not is_address(said.get(b"listen", b"127.0.0.1")):
+    if b"leaders" in said and b"check" not in said or not is_address(said.get(b"listen", b"127.0.0.1")):
+        return WRONG
+    if not re.fullmatch(rb"[0-9a-fA-F]{32}", said.get(b"ring", b"0" * 32)) or said.get(b"log", b"plain") not in FORMS:
         return WRONG
     if b"always" in said and b"serve" in said or b"status" in said and int(said.get(b"doors", b"1")) > 31:
         return WRONG
     return TAKEN if said.get(b"settings", b"-") == b"-" else "path"
+
+
+def is_line(err: bytes, text: bytes) -> bool:
+    """Whether it is this line, in one of the forms."""
+    return any(re.fullmatch(form + text + rb"\n", err) for form in FORMS.values())
 
 
 class Words(Kind):
@@ -99,12 +107,13 @@ class Words(Kind):
             WRONG: ended[:2] == (2, b"") and ended.err.startswith(b"error: "),
             HELP: ended.status == 0 and b"Usage: ringd" in ended.out and not ended.err,
             VERSION: ended.status == 0 and re.fullmatch(rb"ringd \d+\.\d+\.\d+\n", ended.out) and not ended.err,
-            TAKEN: ended[:3] == (2, b"", b"ringd: settings are not TOML\n"),
-            "path": ended[:3] == (2, b"", b"ringd: settings cannot be read\n"),
+            TAKEN: ended[:2] == (2, b"") and is_line(ended.err, b"ringd: settings are not TOML"),
+            "path": ended[:2] == (2, b"") and is_line(ended.err, b"ringd: settings cannot be read"),
         }[right]
         return None if is_right else f"{ended[:3]}, where it is {right}"
 
 
 VALUES = [b"0", b"1", b"32", b"33", b"31", b"1000", b"1001", b"86400", b"86401", b"65535", b"65536", b"4294967296", b"4294967297", b"+5", b"-5", b"05",
           b"5.0", b" 5", b"", b"x", b"-", b"--", b"1_0", b"0x1", "٣".encode(), b"00000000000000000000001", b"18446744073709551617", b"no/such/file",
-          b"10.0.0.255", b"0.0.0.0", b"256.1.1.1", b"01.2.3.4", b"1.2.3", b"1.2.3.4.5"]
+          b"10.0.0.255", b"0.0.0.0", b"256.1.1.1", b"01.2.3.4", b"1.2.3", b"1.2.3.4.5",
+          b"plain", b"journal", b"time", b"0123456789abcdefABCDEF0123456789"]
