@@ -18,9 +18,12 @@ ringd \- a ring of durable nodes that elect a leader for each group and term
 .RB [ \-\-settings " \fIPATH\fR]"
 .RB [ \-\-existing ]
 .RB [ \-\-fail\-stop ]
-.RB [ \-\-serve " \fIK\fR | " \-\-always " | " \-\-make " | " \-\-check ]
+.RB [ \-\-serve " \fIK\fR | " \-\-always " | " \-\-make " | " \-\-check " [" \-\-leaders ]]
+.RB [ \-\-ring " \fIID\fR]"
+.RB [ \-\-log " \fIFORM\fR]"
 .RB [ \-\-doors " \fIS\fR]"
 .RB [ \-\-idle " \fISECONDS\fR]"
+.RB [ \-\-leap " \fIN\fR]"
 .RB [ \-\-status " \fIPORT\fR]"
 .RB [ \-\-watchers " \fIW\fR]"
 .RB [ \-\-listen " \fIADDRESS\fR]"

@@ -5,14 +5,15 @@ import re
 from collections.abc import Callable, Iterator
 
 Found = tuple[bool, int, str]
-NAME = re.compile(r"\bcinoweta_\w+")
+NAME = re.compile(r"\b(?:cinoweta|process)_\w+")
 RUNBOOK = re.compile(r"runbook_url: \S*/(\w+\.md)#(\S+)$")
 
 
 def told(root: pathlib.Path) -> set[str]:
     """The names of all metrics, as the code has them."""
     sources = (root / "crates" / "ring_status" / "src").glob("*.rt")
-    return {name for path in sources for name in NAME.findall(path.read_text(encoding="utf-8"))}
+    # A name stands at the front of a text.
+    return {name for path in sources for name in re.findall(rf'"({NAME.pattern})', path.read_text(encoding="utf-8"))}
 
 
 def named(path: pathlib.Path, known: set[str]) -> Iterator[Found]:
