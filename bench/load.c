@@ -2,17 +2,24 @@
 //
 //   load bare FILE COUNT GROWS
 //       COUNT (1 to 100,000) appends of 64 bytes to a new file, each with a sync by fdatasync. GROWS 1: at the end of the file, which
-//       grows; 0: in a file that had its length before. The file is removed. Prints `bare NANOSECONDS`, of all appends.
+//       grows; 0: in a file that had its length before, filled by 4 KiB, as `ringd` fills a node's. The file is removed. Prints
+//       `bare NANOSECONDS`, of all appends.
+//   load hops FOLDER HOPS COUNT REST
+//       COUNT (1 to 10,000) chains of HOPS (1 to 64) commits, one behind the other by one thread, in three files of FOLDER in turn: 30
+//       bytes and a sync, then a byte and a sync, as a node commits one input. So it is what an election of so many commits costs where
+//       no thread is woken. Before each chain it rests REST microseconds (0 to 1,000,000). The files are removed. Prints `hops
+//       NANOSECONDS` for each chain.
 //   load stands PORT NODES CLIENTS ROUNDS WHO
 //       CLIENTS clients (1 to 64), each in a thread, at each of NODES nodes (1 to 16), node I at port PORT + I - 1. Each asks one
 //       line before the clock starts, and then ROUNDS times (1 to 4,000) `stand`, and `who` behind each where WHO is 1, in a group
 //       of its own and a greater term each time. Prints `wall NANOSECONDS`, from the first line to the last answer, and for each
 //       kind of line `stand` or `who`, the count of answers, and the 50th, 90th and 99th percentile of their times in nanoseconds.
-//   load elections PORT NODES COUNT
-//       COUNT elections (1 to 1,000), one after the other, each of a group of its own: `stand` at each node, then `latest` at one
-//       node after the other, each until it is not `none`. Prints for each `election NANOSECONDS LATE POLLS`: the time from the
-//       first byte sent to the last leader read, how many nodes answered `no 4 late`, and how often `latest` was asked. It ends
-//       before a session has had all the lines that a node takes in one.
+//   load elections PORT NODES COUNT REST
+//       COUNT elections (1 to 1,000), one after the other, each of a group of its own and behind a rest of REST microseconds (0 to
+//       1,000,000): `stand` at each node, then `latest` at one node after the other, each 0.1 ms behind the answer before, until it is
+//       not `none`. Prints for each `election NANOSECONDS LATE POLLS`: the time from the first byte sent to the last leader read, how
+//       many nodes answered `no 4 late`, and how often `latest` was asked. It ends before a session has had all the lines that a node
+//       takes in one.
 //   load years PORT NODES GROUPS TERMS KEEP
 //       GROUPS clients (1 to 16), each in a thread, with a group of its own and sessions with all NODES nodes. Each has TERMS (1 to
 //       1,000,000) elections, one after the other: `stand` at the next node for the next term, `latest` at one node after the other, each
@@ -105,19 +112,58 @@ static int ascending(const void *a, const void *b) {
     return (x > y) - (x < y);
 }
 
+static const char zeros[4096];
+
+// A new file of this length at least. One large write would make each sync of it dearer on some file systems.
+static int filled(const char *path, size_t length) {
+    int fd = open(path, O_RDWR | O_CREAT | O_EXCL, 0600);
+    if (fd < 0) refused(path);
+    for (size_t at = 0; at < length; at += sizeof zeros)
+        if (pwrite(fd, zeros, sizeof zeros, (off_t)at) != sizeof zeros) refused(path);
+    if (fsync(fd)) refused(path);
+    return fd;
+}
+
+static void append(int fd, size_t at, size_t length) {
+    if (pwrite(fd, zeros, length, (off_t)at) != (ssize_t)length || fdatasync(fd)) refused("append");
+}
+
+static void rested(int microseconds) {
+    struct timespec pause = {.tv_sec = microseconds / 1000000, .tv_nsec = microseconds % 1000000 * 1000L};
+    if (microseconds) nanosleep(&pause, 0);
+}
+
 static void bare(const char *path, int count, int grows) {
     enum { APPEND = 64 };
-    size_t length = (size_t)count * APPEND;
-    char *zeros = calloc(1, length);
-    int fd = open(path, O_RDWR | O_CREAT | O_EXCL, 0600);
-    if (!zeros || fd < 0 || (!grows && pwrite(fd, zeros, length, 0) != (ssize_t)length) || fsync(fd)) refused(path);
+    int fd = filled(path, grows ? 0 : (size_t)count * APPEND);
     uint64_t start = now();
-    for (int i = 0; i < count; i++)
-        if (pwrite(fd, zeros, APPEND, (off_t)i * APPEND) != APPEND || fdatasync(fd)) refused(path);
+    for (int i = 0; i < count; i++) append(fd, (size_t)i * APPEND, APPEND);
     printf("bare %llu\n", (unsigned long long)(now() - start));
     close(fd);
     unlink(path);
-    free(zeros);
+}
+
+static void chains(const char *folder, int hops, int count, int rest) {
+    enum { FILES = 3, INPUT = 30, SPACE = 1 << 20 };
+    char path[ANSWER];
+    int fds[FILES];
+    size_t at[FILES] = {0};
+    for (int i = 0; i < FILES; i++) {
+        if (snprintf(path, sizeof path, "%s/hops-%d", folder, i) >= (int)sizeof path) refused(folder);
+        fds[i] = filled(path, SPACE);
+        unlink(path);
+    }
+    for (int c = 0; c < count; c++) {
+        rested(rest);
+        uint64_t start = now();
+        for (int h = 0; h < hops; h++) {
+            int i = h % FILES;
+            append(fds[i], at[i] + 1, INPUT);
+            append(fds[i], at[i], 1);
+            at[i] = (at[i] + 1 + INPUT) % (SPACE / 2);
+        }
+        printf("hops %llu\n", (unsigned long long)(now() - start));
+    }
 }
 
 static int rounds, asks;
@@ -192,17 +238,16 @@ static void stands(int port, int nodes, int clients) {
     if (asks) print_times("who", who_times, all);
 }
 
-static void elections(int port, int nodes, int count) {
+static void elections(int port, int nodes, int count, int rest) {
     int s[16], lines[16] = {0};
     char line[LINE], answer[ANSWER];
-    struct timespec pause = {.tv_nsec = 5000000};
     for (int n = 0; n < nodes; n++) s[n] = connected(port + n);
     for (int e = 0; e < count; e++) {
         int late = 0, polls = 0;
         for (int n = 0; n < nodes; n++)
             if (lines[n] > SESSION_LINES - 1000) count = e;
         if (count == e) break;
-        nanosleep(&pause, 0);           // what the election before left is done by then
+        rested(rest);
         char stand[16][LINE];
         // the greatest bid moves round the ring
         for (int n = 0; n < nodes; n++) snprintf(stand[n], LINE, "stand e%d 1 %d\n", e, 10 + (n + e) % nodes);
@@ -217,15 +262,16 @@ static void elections(int port, int nodes, int count) {
             else if (strcmp(answer, "stood")) unexpected(stand[n], answer);
         }
         for (int n = 0; n < nodes; n++)
-            do {
+            for (;;) {
                 put(s[n], line, length);
                 get(s[n], answer);
                 polls++;
                 lines[n]++;
-                if (strcmp(answer, "none") && strncmp(answer, "term 1 leader ", 14)) unexpected(line, answer);
+                if (!strncmp(answer, "term 1 leader ", 14)) break;
+                if (strcmp(answer, "none")) unexpected(line, answer);
                 if (now() - start > SECONDS * 1000000000ull) unexpected(line, "not elected");
-                if (polls > POLLS) nanosleep(&pause, 0);
-            } while (!strcmp(answer, "none"));
+                rested(polls > POLLS ? 5000 : 100);
+            }
         printf("election %llu %d %d\n", (unsigned long long)(now() - start), late, polls);
     }
     for (int n = 0; n < nodes; n++) bye(s[n]);
@@ -317,14 +363,16 @@ int main(int argc, char **argv) {
         rounds = number(argv[5], 1, 4000);
         asks = number(argv[6], 0, 1);
         stands(port, nodes, clients);
-    } else if (argc == 5 && !strcmp(argv[1], "elections")) {
-        elections(number(argv[2], 1, 65535), number(argv[3], 2, 16), number(argv[4], 1, 1000));
+    } else if (argc == 6 && !strcmp(argv[1], "hops")) {
+        chains(argv[2], number(argv[3], 1, 64), number(argv[4], 1, 10000), number(argv[5], 0, 1000000));
+    } else if (argc == 6 && !strcmp(argv[1], "elections")) {
+        elections(number(argv[2], 1, 65535), number(argv[3], 2, 16), number(argv[4], 1, 1000), number(argv[5], 0, 1000000));
     } else if (argc == 7 && !strcmp(argv[1], "years")) {
         int port = number(argv[2], 1, 65535), nodes = number(argv[3], 2, 16), groups = number(argv[4], 1, 16);
         years(port, nodes, groups, number(argv[5], 1, 1000000), number(argv[6], 0, 1000));
     } else {
-        fprintf(stderr, "usage: load bare FILE COUNT GROWS | stands PORT NODES CLIENTS ROUNDS WHO | elections PORT NODES COUNT"
-            " | years PORT NODES GROUPS TERMS KEEP\n");
+        fprintf(stderr, "usage: load bare FILE COUNT GROWS | hops FOLDER HOPS COUNT REST | stands PORT NODES CLIENTS ROUNDS WHO"
+            " | elections PORT NODES COUNT REST | years PORT NODES GROUPS TERMS KEEP\n");
         return 1;
     }
     return 0;

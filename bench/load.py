@@ -2,7 +2,7 @@
 """load.py [--ringd PATH] [--folder PATH] [--runs N] [--against PROGRAM] [--capacity C] [--scrape MS] [--turns PATH] [--years TERMS]: times `ringd` under
 load, over sockets, on files.
 
-It prints figures and asserts nothing of them. All of it stands in one run: the answers that clients get, an election, and the cost of
+It prints figures and asserts nothing of them. All of it stands in one run: the answers that clients get, elections, and the cost of
 a bare append with a sync in the same folder, to which the ratios are given.
 
   --ringd PATH       the server, `bin/ringd` by default. More than one client at a node needs its word `--doors`; where its help
@@ -22,7 +22,8 @@ a bare append with a sync in the same folder, to which the ratios are given.
   --scrape MS        `/metrics` is read at the start of each row's run, and every so many milliseconds then, 1 to 60,000. A node has 30
                      doors at most then beside the one that it keeps, and so many clients in place of 31.
   --turns PATH       another server, as one of the tree before, with which each run of a row is done in turns. Printed are in place of all
-                     else the answers a second by that one and by `--ringd`, and the ratio; of each row, and of all the mean ratio.
+                     else the answers a second by that one and by `--ringd`, and the ratio; of each row, and of all the mean ratio. Then
+                     the same of elections, by their times.
   --years TERMS      in place of all rows one ring, of 65,536 bytes where --capacity says no other, elects so many terms, 11 to 1,000,000,
                      in each of three groups, side by side, and each client retires at all nodes the terms more than 10 below the one that
                      it had elected. Printed are the times of elections and of retiring, what the nodes hold then, and by how much the
@@ -42,8 +43,10 @@ table in Markdown, with
   processor: user plus system time of the server, less that of a run with the same sessions and no lines, for each answer;
   done: how long it took from the first line until nothing more was written; then all those elections are over.
 
-Behind it stand the elections: `stand` at each of the three nodes, until `latest` is not `none` at all three. The last line says how much
-of the processors others took meanwhile, system threads among them: where that is more than a little the figures say little.
+Behind it stand the elections: `stand` at each of the three nodes, until `latest`, asked each 0.1 ms, is not `none` at all three, behind
+rests of 5 ms and of 0.1 ms. Beside them stands, of the same moments, what an election's commits cost where nobody has to be woken: six of
+one input, one behind the other, by one thread. The last line says how much of the processors others took meanwhile, system threads among
+them: where that is more than a little the figures say little.
 
 The clients are bench/load.c, compiled by `cc` (or clang, or gcc). Python would hide the server: against a server of 30 lines of C that
 answers at once, 32 clients in Python's threads took 28 to 35 us an answer, and 29 to 49 us of processor; one loop over `epoll` in Python
@@ -81,6 +84,10 @@ MOST_SCRAPED = 30
 GROUPS, KEEP, SMALL = 3, 10, 1 << 16
 APPENDS = 300
 ELECTIONS = 20
+# The commits on the way of an election in a ring of three: a token goes round, and its leader is told round.
+HOPS = 6
+# The rests before an election, in microseconds: its threads sleep deep behind the first, and hardly behind the other.
+RESTS = (5000, 100)
 SECONDS = 60
 
 
@@ -281,6 +288,20 @@ class Row:
         return "node 1" if self.nodes == 1 else f"each of {self.nodes} nodes"
 
 
+@dataclass
+class Elections:
+    """One run of elections: a bare append and a chain of commits around it, their own times in microseconds, and the late Stands."""
+
+    base: float
+    hops: float
+    times: list[float]
+    late: int
+
+    @property
+    def middle(self) -> float:
+        return statistics.median(self.times)
+
+
 class Bench:
     """What all rows are run with."""
 
@@ -354,21 +375,28 @@ class Bench:
             if name in given:
                 row.add(name, given[name])
 
-    def elect(self) -> tuple[float, list[float], list[int]]:
-        """One run of elections: a bare append, their microseconds, and how many Stands were late."""
+    def hops(self, rest: int) -> float:
+        """The microseconds of so many commits as an election has, one behind the other, with nobody woken."""
+        lines = call([self.load, "hops", self.folder, str(HOPS), str(ELECTIONS), str(rest)]).splitlines()
+        return statistics.median(int(line.split()[1]) for line in lines) / 1e3
+
+    def elect(self, rest: int) -> "Elections":
+        """One run of elections behind such rests."""
 
         def work() -> str:
             server = Server(self.rings, 1, 1)
             try:
-                text = call([self.load, "elections", str(server.port), str(RING), str(ELECTIONS)])
+                text = call([self.load, "elections", str(server.port), str(RING), str(ELECTIONS), str(rest)])
                 server.end([0] * RING)
                 return text
             finally:
                 server.stop()
 
+        before = self.hops(rest)
         base, text = self.between(work)
+        hops = (before + self.hops(rest)) / 2
         lines = [line.split() for line in str(text).splitlines()]
-        return base, [int(line[1]) / 1e3 for line in lines], [int(line[2]) for line in lines]
+        return Elections(base, hops, [int(line[1]) / 1e3 for line in lines], sum(int(line[2]) for line in lines))
 
 
 def best_times(program: str, folder: str) -> dict[int | str, list[float]]:
@@ -420,19 +448,17 @@ def print_row(row: Row) -> None:
 
 def print_elections(bench: Bench) -> None:
     """Elections of three Stands, one after the other."""
-    ratios, times, late = [], [], 0
-    for _ in range(bench.runs):
-        base, some, tardy = bench.elect()
-        ratios.append(statistics.median(some) / base)
-        times += some
-        late += sum(tardy)
-    times.sort()
-    print(
-        f"elections, a Stand at each of {RING} nodes: 50th and 90th percentile {times[len(times) // 2]:.0f} and"
-        f" {times[len(times) * 9 // 10]:.0f} us, {statistics.median(ratios):.1f} bare appends ({min(ratios):.1f} to {max(ratios):.1f});"
-        f" {late} of {RING * len(times)} Stands came late",
-        flush=True,
-    )
+    for rest in RESTS:
+        runs = [bench.elect(rest) for _ in range(bench.runs)]
+        times = sorted(time for run in runs for time in run.times)
+        appends, hops = [run.middle / run.base for run in runs], [run.middle / run.hops for run in runs]
+        print(
+            f"elections behind {rest:,} us, a Stand at each of {RING} nodes: 50th and 90th percentile {times[len(times) // 2]:.0f} and"
+            f" {times[len(times) * 9 // 10]:.0f} us, {statistics.median(appends):.1f} bare appends ({min(appends):.1f} to {max(appends):.1f}),"
+            f" {statistics.median(hops):.2f} times {HOPS} commits with nobody woken ({min(hops):.2f} to {max(hops):.2f});"
+            f" {sum(run.late for run in runs)} of {RING * len(times)} Stands came late",
+            flush=True,
+        )
 
 
 def print_against(rows: list[Row], before: dict[int | str, list[float]], behind: dict[int | str, list[float]]) -> None:
@@ -466,6 +492,18 @@ def turns(words: argparse.Namespace, folder: str) -> None:
         lines = "stand, who" if asks else "stand"
         print(f"| {clients} at {rows[0].place} | {lines} | {before:,.0f} | {now:,.0f} | {now / before:.3f} |", flush=True)
     print(f"\nof all rows {statistics.geometric_mean(ratios):.3f}")
+    for rest in RESTS:
+        runs: tuple[list[Elections], list[Elections]] = ([], [])
+        for run in range(words.runs):
+            for place in (0, 1) if run % 2 == 0 else (1, 0):
+                runs[place].append(benches[place].elect(rest))
+        before, now = (statistics.median(run.middle for run in some) for some in runs)
+        hops = [statistics.median(run.middle / run.hops for run in some) for some in runs]
+        print(
+            f"elections behind {rest:,} us: {before:,.0f} and {now:,.0f} us, {now / before:.3f} times as long;"
+            f" {hops[0]:.2f} and {hops[1]:.2f} times {HOPS} commits with nobody woken",
+            flush=True,
+        )
 
 
 def busy() -> tuple[float, float]:
