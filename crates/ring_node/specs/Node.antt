@@ -6,12 +6,11 @@ use Rattle.ring_records.specs.declared.refusal.Refusal.{Refusal}
 use Rattle.ring_records.specs.declared.refusal.Refusal.TheVariants.{Full, Limit}
 use Rattle.ring_records.specs.declared.request.Request.{Request}
 use Rattle.ring_records.specs.States.{NodeState, launched_base, gained_by, answered_by, launched, launched_all, left_by}
-use Rattle.ring_records.specs.Admission.{epochs, fresh, where_so, newest}
+use Rattle.ring_records.specs.Admission.{epochs, fresh, where_so, newest, snapshot_len}
 use Rattle.ring_records.specs.Emission.{sent}
 use Rattle.ring_records.specs.History.{credit}
 use Rattle.ring_records.specs.Lists.{or_else}
 use Rattle.ring_records.specs.Member.{Member, member}
-use Rattle.ring_records.specs.Snapshot.{snapshot_len}
 use Rattle.ring_records.specs.Summary.{summary}
 use Rattle.ring_node.specs.Open.{Open}
 use Rattle.ring_node.specs.declared.flight.Flight.{Flight}
