@@ -11,8 +11,8 @@ leader that was paused from a late write. docs/CLIENTS.md tells of it, and of `R
 import logging
 
 from .errors import (AlreadyStands, BadLine, BadName, BadNumber, Cancelled, CinowetaError, DeviceFailed, Full, Late,
-                     LimitReached, LockTaken, NoAnswer, NodeFailed, NoLeader, NotHeld, NoTerm, OutOfMemory, Refused, Resigned,
-                     Retired, Stale, TooFar, Undecided, WrongRing)
+                     LimitReached, LockTaken, NoAnswer, NodeFailed, NoLeader, NotHeld, NotListed, NoTerm, OutOfMemory,
+                     Refused, Resigned, Retired, Stale, TooFar, Undecided, WrongRing)
 from .kinds import Election, Holder, Leader, Led, Waiter
 from .lock import Lock, holder, waiters
 from .ring import Ring
@@ -22,5 +22,5 @@ __version__ = "0.1.0"
 logging.getLogger("cinoweta").addHandler(logging.NullHandler())
 __all__ = ["AlreadyStands", "BadLine", "BadName", "BadNumber", "Cancelled", "CinowetaError", "DeviceFailed", "Election",
            "Full", "Holder", "Late", "Leader", "Led", "LimitReached", "Lock", "LockTaken", "NoAnswer", "NoLeader",
-           "NodeFailed", "NotHeld", "NoTerm", "OutOfMemory", "Refused", "Resigned", "Retired", "Ring", "Stale", "TooFar", "Undecided",
-           "Waiter", "WrongRing", "holder", "waiters"]
+           "NodeFailed", "NotHeld", "NotListed", "NoTerm", "OutOfMemory", "Refused", "Resigned", "Retired", "Ring",
+           "Stale", "TooFar", "Undecided", "Waiter", "WrongRing", "holder", "waiters"]

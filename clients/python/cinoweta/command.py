@@ -11,7 +11,7 @@ from typing import Any
 from . import backup as copying
 from . import move as moving
 from . import sizing, status
-from .errors import CinowetaError, LockTaken, NoAnswer, NoLeader, Refused, WrongRing
+from .errors import CinowetaError, LockTaken, NoAnswer, NoLeader, NotListed, Refused, WrongRing
 from .host import OWN, place
 from .lock import Lock
 from .lock import holder as holder_of
@@ -19,8 +19,9 @@ from .lock import waiters as waiters_of
 from .ring import Ring
 from .words import arguments
 
-NONE, WORDS, NO_ANSWER, NO_LEADER, LOST, TAKEN, SYSTEM = 1, 2, 3, 4, 5, 6, 7
-CODES: dict[type[Exception], int] = {NoAnswer: NO_ANSWER, copying.NoCopy: NONE, NoLeader: NO_LEADER, LockTaken: TAKEN}
+NONE, WORDS, NO_ANSWER, NO_LEADER, LOST, TAKEN, SYSTEM, NOT_LISTED = 1, 2, 3, 4, 5, 6, 7, 8
+CODES: dict[type[Exception], int] = {NoAnswer: NO_ANSWER, copying.NoCopy: NONE, NoLeader: NO_LEADER, LockTaken: TAKEN,
+                                    NotListed: NOT_LISTED}
 # As a shell has it.
 NOT_STARTED, NO_PROGRAM = 126, 127
 # The status of a refusal is its number and this.

@@ -45,6 +45,10 @@ class NoTerm(CinowetaError):
     """The group has no further term: it goes on by another name."""
 
 
+class NotListed(CinowetaError):
+    """Who waits for the lock can't be listed: it is held across hosts, or on another one than this."""
+
+
 class NotHeld(CinowetaError):
     """A process that was forked holds no lock of its parent, and has no term."""
 

@@ -10,11 +10,12 @@ from . import forks, presence
 from .asking import Asking
 from .beacon import Beacon, require_text
 from .election import KEEP, Campaign, require_keep, retire
-from .errors import PASSING, Late, LockTaken, NoAnswer, NotHeld, Resigned, Retired, Stale, WrongRing
+from .errors import PASSING, Late, LockTaken, NoAnswer, NotHeld, NotListed, Resigned, Retired, Stale, WrongRing
 from .host import is_own
 from .kinds import Election, Holder, Led, Waiter
 from .pause import Pause
 from .presence import ABSENT, Presence
+from .showing import SHOWERS, Shown
 from .waiting import ENDED, GONE, GRACE, HANDED, KEPT, OVER, Line, ask, holder_of
 
 # For so many terms a campaign stands at most, and so long it waits in each, in seconds.
@@ -46,22 +47,23 @@ def is_across(ring: Asking, across_hosts: bool | None) -> bool:
 
 
 async def find_holder(ring: Asking, group: str, patience: float, across_hosts: bool | None) -> Holder | None:
-    across = is_across(ring, across_hosts)
+    lock = Locking(ring, group, 0, patience, None, "", KEEP, across_hosts, None, None)
     known = await ring.do_latest(group)
+    ring.close()
     if known is None:
         return None
-    if not across:
+    if not lock.across and not presence.is_across(known.leader.bid):
         return await holder_of(ring, known, patience)
-    ring.close()
-    is_held = await presence.is_there(ring, group, known, min(patience, ABSENT))
-    return await presence.holder_of(ring, group, known) if is_held else None
+    return await lock.holder(ring, known) if await lock.is_there(ring, known) else None
 
 
 async def find_waiters(ring: Asking, group: str, patience: float) -> list[Waiter]:
-    if not is_own(ring.host):
-        raise WrongRing(f"{ring.host}: who waits is seen on the ring's own host")
     known = await ring.do_latest(group)
     ring.close()
+    if known is not None and presence.is_across(known.leader.bid):
+        raise NotListed(f"{group}: held across hosts, where nobody lists who waits")
+    if not is_own(ring.host):
+        raise NotListed(f"{group}: who waits is listed on {ring.host} itself alone")
     lines = [] if known is None else await ask(ring, known.leader.bid, f"waiters {known.leader.bid}", patience)
     rows = [line.split(" ", 2) for line in lines[1:]]
     return [Waiter(int(row[1]), row[2]) for row in rows if len(row) == 3 and row[1].isdecimal()]
@@ -82,6 +84,7 @@ class Locking:
         # Within which the rest changes.
         self.mutex = threading.Lock()
         self.sign: Beacon | Presence | None = None
+        self.shown: Shown | None = None
         self.is_held, self.is_child = False, False
         # The term in which it leads or led; that of the last holder that is gone, and the number that its own is above;
         # when the ring was asked, and when it was asked a question that it answered.
@@ -98,7 +101,7 @@ class Locking:
         """In a process that was forked nothing of it is held."""
         self.mutex = threading.Lock()
         if self.sign is not None:
-            self.sign, self.is_held, self.is_child = None, False, True
+            self.sign, self.shown, self.is_held, self.is_child = None, None, False, True
 
     @property
     def term(self) -> int:
@@ -147,7 +150,7 @@ class Locking:
                     # Where the ring came to no leader before, these are the same Stands, and take no room again.
                     election = await campaign.run(TERMS, SECONDS)
                     if election.is_mine and await self.show(sign, asks, election):
-                        self.take(sign, election.term, campaign.asked)
+                        self.take(sign, election, campaign.asked)
                         self.ring.begin(retire(self.ring, self.group, election.term - self.keep))
                         return
                     if not election.is_mine:
@@ -181,12 +184,16 @@ class Locking:
                 return False
         return True
 
-    def take(self, sign: Beacon | Presence, term: int, told: float) -> None:
+    def take(self, sign: Beacon | Presence, election: Election, told: float) -> None:
         with self.mutex:
             self.require(sign)
-            self.is_held, self.is_child, self.led, self.told, self.asked = True, False, term, told, time.monotonic()
+            self.is_held, self.is_child, self.led = True, False, election.term
+            self.told, self.asked = told, time.monotonic()
             self.ring.looks.add(self)
-        LOG.info("%s: holds the lock in term %s", self.group, term)
+            if isinstance(sign, Beacon) and self.ring.status is not None:
+                place = self.ring.host, self.ring.first, self.ring.status, election.leader.node
+                self.shown = SHOWERS.add(Shown(self.group, election.term, sign.bid, self.text), place)
+        LOG.info("%s: holds the lock in term %s", self.group, election.term)
 
     def require(self, sign: Beacon | Presence) -> None:
         if self.sign is not sign:
@@ -273,12 +280,12 @@ class Locking:
         return await ask(asks, bid, str(bid), self.patience) == [str(bid)]
 
     async def require_kind(self, asks: Asking, known: Led, is_present: bool) -> None:
-        """`WrongRing` where who leads so is of the other kind, and there, as far as anything tells. Who is present and has the
-        bid of a beacon is one of an earlier release, across hosts too."""
+        """`WrongRing` where who leads so is of the other kind, and there, as far as anything tells. Who is present, has
+        the bid of a beacon and does not answer there is one of an earlier release, across hosts too."""
         bid, how = known.leader.bid, "on one host, and this client is told to hold it across hosts"
         if self.across:
-            is_wrong = not is_present and not presence.is_across(bid) and (
-                not is_own(asks.host) or await ask(asks, bid, str(bid), self.patience) == [str(bid)])
+            is_wrong = not presence.is_across(bid) and (
+                await ask(asks, bid, str(bid), self.patience) == [str(bid)] if is_own(asks.host) else not is_present)
         else:
             is_wrong = presence.is_across(bid) and (is_present or asks.status is None)
             how = "across hosts, and this client is not told to"
@@ -351,10 +358,13 @@ class Locking:
             if self.sign is not sign:
                 return False
             was_held, self.sign, self.is_held = self.is_held, None, False
+            shown, self.shown = self.shown, None
             # The term in which this one led is over; a parent's is not.
             self.gone = max(self.gone, self.led) if was_held else self.gone
             self.ring.looks.remove(self)
         first = sign.close()
+        if shown is not None:
+            SHOWERS.remove(shown)
         if was_held:
             HANDED.put(self.key, first, self.led)
         return was_held

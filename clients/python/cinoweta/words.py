@@ -6,11 +6,11 @@ from . import __version__
 from .election import KEEP
 
 EPILOG = """exit status: 0 done; 1 no leader is known, another one leads, nobody holds the lock, a node is not well, or no
-capacity is enough; 2 wrong words; 3 no answer; 4 no leader in so many terms; 5 the lock was lost; 6 it was not had in time; 7 the system
-failed, as where nothing more can be printed; 10 + N refused as `no N`, as 16 for `no 6 limit` and 17 for `no 7 full`;
-of lock 126 where COMMAND can't be started, 127 where there is none, else that of COMMAND. Fencing at what COMMAND
-writes to makes a lock safe: it turns away each write with a lower term than one that it has seen, which COMMAND finds
-in CINOWETA_TERM."""
+capacity is enough; 2 wrong words; 3 no answer; 4 no leader in so many terms; 5 the lock was lost; 6 it was not had in
+time; 7 the system failed, as where nothing more can be printed; 8 who waits can't be listed; 10 + N refused as `no N`,
+as 16 for `no 6 limit` and 17 for `no 7 full`; of lock 126 where COMMAND can't be started, 127 where there is none, else
+that of COMMAND. Fencing at what COMMAND writes to makes a lock safe: it turns away each write with a lower term than
+one that it has seen, which COMMAND finds in CINOWETA_TERM."""
 
 
 def arguments() -> argparse.ArgumentParser:
