@@ -322,12 +322,13 @@ func isLine(text string) bool {
 func askBeacon(ctx context.Context, bid int, line string, limit time.Duration) string {
 	ctx, cancel := context.WithTimeout(ctx, limit)
 	defer cancel()
-	for {
+	// Of a process that ends, what it listens at may be closed a moment later than what it was connected to.
+	for pause := stoodPause; ; pause = atMost(shortestPause, 2*pause) {
 		answer, isSure := askBeaconOnce(ctx, bid, line, limit)
 		if isSure || ended(ctx) != nil {
 			return answer
 		}
-		sleep(ctx, shortestPause)
+		sleep(ctx, pause)
 	}
 }
 

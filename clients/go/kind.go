@@ -51,7 +51,7 @@ func (l *Lock) isOtherKind(known Led) bool {
 }
 
 // isOtherThere gives a [WrongRingError] where a leader of the other kind is there, or nothing here tells whether it is. Who
-// is present and has the bid of a beacon is one of an earlier release, across hosts too.
+// is present, has the bid of a beacon and does not answer there is one of an earlier release, across hosts too.
 func (l *Lock) isOtherThere(ctx context.Context, known Led) (bool, error) {
 	isSeen, isRefused := false, l.ring.Status == 0
 	if l.ring.Status != 0 {
@@ -61,19 +61,17 @@ func (l *Lock) isOtherThere(ctx context.Context, known Led) (bool, error) {
 		}
 	}
 	switch {
-	case l.isAcross() && isSeen:
-		return true, nil
 	case l.isAcross() && isOwn(l.ring.Host):
 		isRefused = isThere(ctx, known.Leader.Bid, l.how.Patience)
 	case l.isAcross():
-		isRefused = true
+		isRefused = !isSeen
 	default:
 		isRefused = isRefused || isSeen
 	}
 	if isRefused && ended(ctx) == nil {
 		return false, l.refuseKind(known)
 	}
-	return false, nil
+	return l.isAcross() && isSeen && !isRefused, nil
 }
 
 // refuseKind says that who leads so is of the other kind.

@@ -26,7 +26,9 @@ type LockOptions struct {
 	// Patience is after how long a holder that is not seen is gone, as one that is paused; DefaultPatience where it is
 	// 0. Across hosts that is two seconds at most, and the holder's GiveUp more.
 	Patience time.Duration
-	// Text is what others are told of this holder: a printable line of 200 bytes at most.
+	// Text is what others are told of this holder: a printable line of 200 bytes at most. Where the Ring has a Status
+	// port it is shown there, too, half a second after the lock was taken, in a door that all locks of a process at one
+	// node share, if one more is free.
 	Text string
 	// AcrossHosts says that holders are seen by `ringd --status`, the Ring's Status port, from other hosts too; so it is
 	// with a Ring of another host anyway. All clients of the lock have to say so: else a [WrongRingError]. A process
@@ -65,9 +67,11 @@ type Lock struct {
 	every time.Duration
 	// How long a campaign waits in a term, and how long who waited for fewer ends leaves it to others.
 	wait, older time.Duration
+	showing     showTimes
 
 	mutex  sync.Mutex
 	sign   sign
+	shown  *shown
 	isHeld bool
 	// leave ends the wait of who acquires it, nil where nobody does, who then sees that it was given back.
 	leave   context.CancelFunc
@@ -85,7 +89,8 @@ func NewLock(ring *Ring, group string, how LockOptions) *Lock {
 	if how.Patience <= 0 {
 		how.Patience = DefaultPatience
 	}
-	return &Lock{ring: ring, group: group, how: how, looks: ring.within(lookEvery), every: lookEvery, wait: DefaultWait, older: olderPause}
+	return &Lock{ring: ring, group: group, how: how, looks: ring.within(lookEvery), every: lookEvery, wait: DefaultWait,
+		older: olderPause, showing: usualShowTimes}
 }
 
 // Acquire waits until this process leads, or the context is over: then a [LockTakenError] where another process holds
@@ -171,7 +176,8 @@ func (l *Lock) resign(above int) {
 // end has the lock be held no more, and gives its sign, which is to be closed.
 func (l *Lock) end() sign {
 	sign := l.sign
-	l.isHeld, l.sign, l.gone = false, nil, greater(l.gone, l.term)
+	showers.remove(l.shown)
+	l.isHeld, l.sign, l.shown, l.gone = false, nil, nil, greater(l.gone, l.term)
 	return sign
 }
 
@@ -182,17 +188,17 @@ func (l *Lock) acquire(ctx, waits context.Context, leave context.CancelFunc) err
 		return err
 	}
 	defer l.ring.release(ctx)
-	term, err := l.contend(ctx, waits, campaign)
+	led, err := l.contend(ctx, waits, campaign)
 	l.mutex.Lock()
 	defer l.mutex.Unlock()
-	return l.settle(term, campaign.asked, err)
+	return l.settle(led, campaign.asked, err)
 }
 
-// settle has the lock be held in a term of which a node told so when it was asked then, unless there is an error, or the
-// lock was given back meanwhile.
-func (l *Lock) settle(term int, asked time.Time, err error) error {
+// settle has the lock be held by who leads so, of which a node told when it was asked then, unless there is an error, or
+// the lock was given back meanwhile.
+func (l *Lock) settle(led Led, asked time.Time, err error) error {
 	if l.hasLeft {
-		l.gone, err = greater(l.gone, term), &ResignedError{l.group}
+		l.gone, err = greater(l.gone, led.Term), &ResignedError{l.group}
 	}
 	l.leave, l.hasLeft = nil, false
 	if err != nil {
@@ -200,8 +206,12 @@ func (l *Lock) settle(term int, asked time.Time, err error) error {
 		l.sign = nil
 		return err
 	}
-	l.isHeld, l.hasGivenUp, l.term = true, false, term
+	l.isHeld, l.hasGivenUp, l.term = true, false, led.Term
 	l.asked, l.heard = time.Now(), asked
+	if l.ring.Status != 0 && !l.isAcross() {
+		place := showPlace{l.ring.Host, l.ring.first, l.ring.Status, led.Leader.Node}
+		l.shown = showers.add(newShown(l.group, led, l.how.Text), place, l.showing)
+	}
 	return nil
 }
 
@@ -255,9 +265,9 @@ func (l *Lock) requireSight() error {
 	return &WrongRingError{fmt.Sprintf(text, hostOf(l.ring.Host))}
 }
 
-// contend stands for the term above that of each holder that is gone, until it leads itself and is seen, and gives that
-// term.
-func (l *Lock) contend(ctx, waits context.Context, campaign *campaign) (int, error) {
+// contend stands for the term above that of each holder that is gone, until it leads itself and is seen, and gives how it
+// leads.
+func (l *Lock) contend(ctx, waits context.Context, campaign *campaign) (Led, error) {
 	var pause pause
 	told, ends := "", 0
 	queue := &queue{own: l.sign.bid(), text: l.how.Text, patience: l.how.Patience, since: time.Now().UnixMilli()}
@@ -284,7 +294,7 @@ func (l *Lock) contend(ctx, waits context.Context, campaign *campaign) (int, err
 		case err == nil && election.IsMine:
 			// Nodes may be slow to, and nobody waits for that.
 			go campaign.retire(context.Background(), election.Term)
-			return election.Term, nil
+			return election.Led, nil
 		case err == nil || election.IsMine && isOver(err):
 			campaign.how.Gone = election.Term
 			if err == nil && l.isAcross() && l.how.Rank == 0 {
@@ -298,7 +308,7 @@ func (l *Lock) contend(ctx, waits context.Context, campaign *campaign) (int, err
 				l.tell("waits for the ring: " + text)
 			}
 		default:
-			return 0, err
+			return Led{}, err
 		}
 	}
 }

@@ -533,7 +533,7 @@ func TestALockThatIsGivenBackAsItIsWonIsNotHeld(t *testing.T) {
 	bid := lock.sign.bid()
 	votes.stand(6, Leader{1, bid})
 	lock.Resign()
-	as[*ResignedError](t, lock.settle(6, time.Now(), nil))
+	as[*ResignedError](t, lock.settle(Led{6, Leader{1, bid}}, time.Now(), nil))
 	same(t, []any{lock.sign == nil, holds(t, lock), isThere(background(t), bid, time.Second)}, []any{true, false, false})
 	// Nobody need look whether the one who led in that term is there.
 	same(t, lock.gone, 6)

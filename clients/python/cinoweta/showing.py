@@ -9,8 +9,9 @@ from . import forks, status
 from .errors import AlreadyStands, Late, Refused, Retired, Stale, WrongRing, refusal
 from .session import Session
 
-# A lock is shown once it was held for so long: one that was given back before costs nothing. So often its session is
-# asked over then, so that it is not silent, in seconds.
+# So often a thread does what there is to do, in seconds, and asks over its session, so that it is not silent. A lock is
+# shown once it was held for so long: one that was given back before costs nothing. Who resigns wakes nobody: the next one
+# is being elected then.
 EVERY = 0.5
 # So long a connection or an answer is waited for, in seconds.
 SECONDS = 1.0
@@ -54,10 +55,9 @@ class Shower:
 
     def __init__(self, place: tuple[str, int, int, int]) -> None:
         self.host, self.first, self.status, self.node = self.place = place
-        # Those that are held, and those that were shown and are so no more; what tells that one is so.
+        # Those that are held, and those that may have been shown and are held no more.
         self.held: dict[Shown, None] = {}
         self.gone: list[Shown] = []
-        self.changed = threading.Event()
         self.session: Session | None = None
         # When another one is tried, how long it rests next, when was looked for doors, and in how many none was free.
         self.again, self.rests, self.looked, self.taken = 0.0, REST, 0.0, 0
@@ -76,8 +76,7 @@ class Shower:
         """Goes on until nothing is held there any more."""
         is_over = False
         while not is_over:
-            self.changed.wait(EVERY)
-            self.changed.clear()
+            time.sleep(EVERY)
             is_over, due, gone = SHOWERS.change(self)
             try:
                 self.step([each for each in due if not each.is_over], gone)
@@ -166,16 +165,12 @@ class Showers:
         return shown
 
     def remove(self, shown: Shown) -> None:
-        """Has it be shown no more. Its thread is woken only where it may have been."""
+        """Has it be shown no more, soon."""
         with self.mutex:
             shower, shown.shower = shown.shower, None
-            if shower is None:
-                return
-            del shower.held[shown]
-            if not shown.is_due:
-                return
-            shower.gone.append(shown)
-        shower.changed.set()
+            if shower is not None:
+                del shower.held[shown]
+                shower.gone.extend([shown] * shown.is_due)
 
     def change(self, shower: Shower) -> tuple[bool, list[Shown], list[Shown]]:
         """Whether nothing is held there any more, what is for so long, and what is so no more."""

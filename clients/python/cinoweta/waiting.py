@@ -11,6 +11,9 @@ from .kinds import Led, Holder
 from .link import BlockingLink, Link, Stop
 from .steps import at_once
 
+# Behind a fault a beacon is asked again so soon at first, in seconds: of a process that ends, what it listens at may be
+# closed a moment later than what it was connected to.
+SOON = 0.002
 # Who leaves a client sooner, in seconds, is the beacon of another bid.
 SOONER = 0.4
 # So often a beacon is asked over a connection that is kept, in seconds.
@@ -35,7 +38,7 @@ class Here:
 async def ask(asks: Asking | Here, bid: int, line: str, seconds: float) -> list[str]:
     """The lines that the beacon of this bid answers to one within so many seconds; none where it does not. Behind a fault
     that does not say that there is none, as where a descriptor is wanting here, it is asked again."""
-    until = time.monotonic() + seconds
+    until, pause = time.monotonic() + seconds, SOON
     while True:
         try:
             return await ask_once(asks, bid, line, until)
@@ -43,9 +46,10 @@ async def ask(asks: Asking | Here, bid: int, line: str, seconds: float) -> list[
             # A bid that no beacon made may name a port that there is not, which is an OverflowError.
             return []
         except OSError:
-            if time.monotonic() + PAUSE > until:
+            if time.monotonic() + pause > until:
                 return []
-        await asks.sleep(PAUSE)
+        await asks.sleep(pause)
+        pause = min(2 * pause, PAUSE)
 
 
 async def ask_once(asks: Asking | Here, bid: int, line: str, until: float) -> list[str]:

@@ -166,14 +166,15 @@ class ShowingTest(Beside, BesideStatus):
 
     def test_whose_term_is_over_is_asked_for_no_more(self) -> None:
         for number, fault in enumerate(("no 4 late", "no 5 stale 2", "no 23 retired 2", "no 3 already 5"), 1):
-            with self.lock() as held:
-                answer = lambda line: fault if line.startswith("stand ") else self.groups(line)
-                self.nodes[0].answer = answer
-                stands = len(self.nodes[0].stands())
-                self.until(lambda: len(self.nodes[0].stands()) > stands)
+            # The first Stand elects it.
+            lines = self.nodes[0].lines
+            self.nodes[0].answer = lambda line: (
+                fault if line.startswith("stand ") and lines.count(line) > 1 else self.groups(line))
+            with self.lock():
+                self.until(lambda: len(self.nodes[0].stands()) == 2 * number)
                 time.sleep(0.3)
-                self.assertEqual((len(self.nodes[0].stands()), self.shower().session), (stands + 1, None), fault)
-                self.nodes[0].answer = self.groups
+                self.assertEqual((len(self.nodes[0].stands()), self.shower().session), (2 * number, None), fault)
+        self.nodes[0].answer = self.groups
         with self.lock(text="a worker"):
             self.until(lambda: self.is_shown("red"))
             self.nodes[0].answer = lambda line: "none" if line.startswith("tell ") else self.groups(line)
@@ -196,8 +197,8 @@ class ShowingTest(Beside, BesideStatus):
                 lock = self.lock(text="a worker")
                 lock.acquire()
                 self.assertLess(time.monotonic() - before, 2.0)
-                stands = len(self.nodes[0].stands())
-                self.until(lambda: len(self.nodes[0].stands()) > stands or len(self.shower().held) == 1)
+                # For whose answer it waits from then on.
+                self.until(lambda: "tell red a worker" in self.nodes[0].lines)
                 time.sleep(0.1)
                 before = time.monotonic()
                 lock.resign()
