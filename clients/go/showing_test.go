@@ -251,7 +251,7 @@ func TestAHolderThatIsShownIsOfItsKindAllTheSame(t *testing.T) {
 	lock := acrossOf(t, ring, LockOptions{})
 	_, _, err := lock.Holder(background(t))
 	for _, err := range []error{err, lock.Acquire(background(t)), lock.TryAcquire(background(t))} {
-		same(t, strings.Contains(as[*WrongRingError](t, err).Text, ": held on one host, and this client is told to hold it across"), true)
+		same(t, strings.Contains(as[*WrongRingError](t, err).Text, ": held on one host, and this client is told"), true)
 	}
 	holder, isHeld, err := ring.Holder(background(t), "red", 0)
 	must(t, err)
