@@ -102,13 +102,18 @@ func TestALockOnOneHostIsShownWhileItIsHeld(t *testing.T) {
 func TestALockThatIsGivenBackSoonIsNeverShown(t *testing.T) {
 	ring, nodes, _, told := showing(t, "")
 	lock := shownOf(t, ring, "red", "a worker")
-	lock.showing = usualShowTimes
+	lock.showing.every = time.Second
 	for term := 1; term <= 5; term++ {
 		must(t, lock.Acquire(background(t)))
 		lock.Resign()
 	}
+	// The goroutine comes by while the next one is held, though not for a second.
+	time.Sleep(600 * time.Millisecond)
+	must(t, lock.Acquire(background(t)))
+	time.Sleep(700 * time.Millisecond)
+	lock.Resign()
 	until(t, "their end", func() bool { return countShowers() == 0 })
-	for begin, wanted := range map[string]int{"stand": 5, "tell": 0, "resign": 0} {
+	for begin, wanted := range map[string]int{"stand": 6, "tell": 0, "resign": 0} {
 		same(t, len(nodes[0].lines(begin))+len(nodes[1].lines(begin)), wanted)
 	}
 	same(t, atomic.LoadInt64(&told.looks), 0)

@@ -96,12 +96,16 @@ class ShowingTest(Beside, BesideStatus):
 
     def test_what_is_given_back_soon_is_never_shown(self) -> None:
         threads = threading.active_count()
-        with mock.patch("cinoweta.showing.EVERY", 0.5):
+        with mock.patch("cinoweta.showing.EVERY", 1.0):
             for term in range(1, 6):
                 with self.lock(text="a worker") as held:
                     self.assertEqual(held.term, term)
-            time.sleep(0.7)
-        self.assertEqual((len(self.nodes[0].stands()), self.doors.asked, SHOWERS.places), (5, 0, {}))
+            # The thread comes by while the next one is held, though not for a second.
+            time.sleep(0.6)
+            with self.lock(text="a worker"):
+                time.sleep(0.7)
+            self.until(lambda: not SHOWERS.places)
+        self.assertEqual((len(self.nodes[0].stands()), self.doors.asked), (6, 0))
         self.assertFalse(any(line.startswith(("tell ", "resign ")) for line in self.nodes[0].lines))
         self.until(lambda: threading.active_count() <= threads)
 
@@ -209,11 +213,17 @@ class ShowingTest(Beside, BesideStatus):
         lock = self.lock()
         lock.acquire()
         self.until(lambda: self.is_shown("red"))
-        in_a_child(lambda: (lock.resign(), time.sleep(0.2)))
-        stands = len(self.nodes[0].stands())
-        time.sleep(0.2)
-        self.assertEqual((self.is_shown("red"), len(self.nodes[0].stands())), (True, stands))
-        self.assertFalse(any(line.startswith("resign ") for line in self.nodes[0].lines))
+
+        def child() -> None:
+            """Ends nothing of its parent's, and shows what it holds itself."""
+            lock.resign()
+            with self.lock("blue"):
+                time.sleep(1.0)
+
+        in_a_child(child)
+        stood = [line.split()[1] for line in self.nodes[0].stands()]
+        self.assertEqual((self.is_shown("red"), sorted(stood)), (True, ["blue", "blue", "red", "red"]))
+        self.assertNotIn("resign red 1", self.nodes[0].lines)
 
     def test_it_is_held_where_no_thread_is_had(self) -> None:
         start = threading.Thread.start
