@@ -1,9 +1,14 @@
 -- What the forms of a line are named, and what tells a line's level in each.
-use Rattle.std.specs.Prelude.{ℕ, List, [], codes}
+use Rattle.std.specs.Prelude.{ℕ, Bool, if◌then◌else◌, List, [], codes, Option, Some, None}
 use Rattle.log_lines.specs.declared.form.LogForm.{LogForm}
 use Rattle.log_lines.specs.declared.form.LogForm.TheVariants.{Plain, Journal, Time}
 use Rattle.log_lines.specs.declared.level.Level.{Level}
-use Rattle.log_lines.specs.declared.level.Level.TheVariants.{Error, Warning, Notice}
+use Rattle.log_lines.specs.declared.level.Level.TheVariants.{Error, Warning, Notice, Debug}
+
+-- that which is said, else the journal's where lines go there
+abbrev pub form_by : Option LogForm → Bool → LogForm
+form_by (Some form) is_journal = form
+form_by None is_journal = if is_journal then Journal else Plain
 
 -- its name
 abbrev pub form_name : LogForm → List ℕ
@@ -17,6 +22,8 @@ mark_of Plain level = []
 mark_of Journal Error = codes "<3>"
 mark_of Journal Warning = codes "<4>"
 mark_of Journal Notice = codes "<6>"
+mark_of Journal Debug = codes "<7>"
 mark_of Time Error = codes "error "
 mark_of Time Warning = codes "warning "
 mark_of Time Notice = codes "notice "
+mark_of Time Debug = codes "debug "

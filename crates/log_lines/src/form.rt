@@ -1,6 +1,6 @@
 //! What a line begins with.
 ghost use Rattle.std.specs.Prelude.{◌≡◌, IfNone, IfSome};
-ghost use Rattle.log_lines.specs.Forms.{form_name};
+ghost use Rattle.log_lines.specs.Forms.{form_by, form_name};
 
 /// What stands before a line.
 #[derive(Clone, Copy, Debug, PartialEq, Eq)]
@@ -14,6 +14,20 @@ pub enum LogForm {
 }
 
 impl LogForm {
+    /// The form that is said, or else the journal's where the lines go there, and no mark where they do not.
+    pub fn of(said: Option<LogForm>, is_journal: bool) -> LogForm
+        ensures { result ≡ form_by said is_journal }
+    {
+        if let Some(form) = said {
+            return form;
+        }
+        if is_journal {
+            LogForm::Journal
+        } else {
+            LogForm::Plain
+        }
+    }
+
     /// Its name.
     pub fn name(self) -> &'static str
         ensures { result.now ≡ form_name self }

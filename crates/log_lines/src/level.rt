@@ -9,4 +9,6 @@ pub enum Level {
     Warning,
     /// 6: something was done.
     Notice,
+    /// 7: what is of use to who looks for something.
+    Debug,
 }

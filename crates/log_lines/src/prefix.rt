@@ -24,9 +24,11 @@ fn mark(form: LogForm, level: Level) -> &'static str
         (LogForm::Journal, Level::Error) => "<3>",
         (LogForm::Journal, Level::Warning) => "<4>",
         (LogForm::Journal, Level::Notice) => "<6>",
+        (LogForm::Journal, Level::Debug) => "<7>",
         (LogForm::Time, Level::Error) => "error ",
         (LogForm::Time, Level::Warning) => "warning ",
         (LogForm::Time, Level::Notice) => "notice ",
+        (LogForm::Time, Level::Debug) => "debug ",
     }
 }
 
