@@ -129,7 +129,13 @@ fn print_verdict<O: Write>(verdict: &Verdict, out: &mut O) -> io::Result<()> {
     match verdict {
         Verdict::Whole(count) => writeln!(out, "audit ok {count}")?,
         Verdict::Stuck(node, place) => writeln!(out, "audit stuck {node} {place}")?,
-        Verdict::Dropped(node) => writeln!(out, "dropped {node}")?,
+        Verdict::Dropped(node) => {
+            writeln!(out, "dropped {node}")?;
+            writeln!(
+                out,
+                "no run can be told, as node {node} begins behind a checkpoint; what the nodes know of each other fits"
+            )?;
+        }
     }
     out.flush()
 }

@@ -2,6 +2,7 @@
 ghost use Rattle.std.specs.Prelude.{◌≤◌};
 
 use crate::enrolled::EnrolledService;
+use crate::event::Event;
 use crate::links::Links;
 use crate::marks::{Booth, MarkReader};
 use crate::site::Doors;
@@ -128,6 +129,7 @@ fn serve_next<S: Service, A: Node, R: Wait + Clock>(
         return false;
     };
     links.tally.begin_session(rt);
+    links.watch.hear(rt, Event::Opened(links.node, door));
     let stay = links.turnstile.begin(rt, door);
     let booth = Booth {
         reception: links.reception,
@@ -144,6 +146,7 @@ fn serve_next<S: Service, A: Node, R: Wait + Clock>(
     drop(stream);
     links.turnstile.end(rt);
     links.tally.end_session(rt);
+    links.watch.hear(rt, Event::Ended(links.node, door));
     send_what_may_miss(rt, hub, links);
     true
 }

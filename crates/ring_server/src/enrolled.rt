@@ -1,4 +1,5 @@
 //! A service whose client is known to be there.
+use crate::event::Event;
 use crate::links::Links;
 use ring_records::{Bid, GroupName, Key, Refusal, Reply, Term};
 use ring_service::is_for_room;
@@ -78,6 +79,9 @@ impl<R: Wait, S: Service> Service for EnrolledService<'_, R, S> {
         if is_for_room(&answer) {
             self.links.fill(self.rt);
         }
+        if matches!(answer, Ok(Reply::Stood)) {
+            self.links.watch.ease(self.rt, self.links.node);
+        }
         answer
     }
 
@@ -85,6 +89,8 @@ impl<R: Wait, S: Service> Service for EnrolledService<'_, R, S> {
         let answer = self.service.retire(group, floor);
         if matches!(answer, Ok(Reply::Retired)) {
             self.retire_known(group, floor);
+            let event = Event::Retired(self.links.node, *group, floor);
+            self.links.watch.hear(self.rt, event);
         }
         answer
     }

@@ -21,7 +21,6 @@ use decision_board::{Board, Naming};
 use disk_model::Device;
 use ring_records::{Packet, Shown};
 use ring_service::{Flusher, opened_board};
-use ring_watch::Tally;
 use std::alloc::Global;
 use std::net::TcpListener;
 use std::sync::Wait;
@@ -71,7 +70,7 @@ pub(crate) fn serve_node<
     requires tied { ForTie site.blanks A.tied }
 {
     let latch = &shared.latch;
-    let Ok(tally) = Tally::new(site.alloc) else {
+    let Some(tally) = shared.tally(site.node()) else {
         drop(site);
         return unstarted(rt, latch);
     };
@@ -96,7 +95,7 @@ pub(crate) fn serve_node<
     let successor = Successor::new();
     let doors = entrance.doors;
     let turnstile = Turnstile::new(rt, doors.count);
-    let links = Links::new(shared, &successor, &tally, &turnstile, number, nodes);
+    let links = Links::new(shared, &successor, tally, &turnstile, number, nodes);
     let (hub, tie) = Hub::<A>::new(desk, blanks);
     let ends = take_ends(rt, alloc, &hub, &board, entrance);
     let flusher = Flusher::new(alloc, journal, board, tie);

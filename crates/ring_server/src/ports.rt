@@ -2,11 +2,12 @@
 use crate::run_fault::RunFault;
 use crossbeam_channel::Receiver;
 use disk_model::{SystemCall, SystemFault};
-use ring_service::{Settings, VERSION, Words};
+use ring_service::{Host, Settings, VERSION, Words};
 use ring_watch::{Facts, Inquiry, Reception, StatusPort};
 use std::alloc::{AllocError, Global};
 use std::fs::File;
-use std::net::{Ipv4Addr, Net, TcpListener, TcpStream};
+use std::io::ErrorKind;
+use std::net::{IpAddr, Net, SocketAddr, TcpListener, TcpStream, ToSocketAddrs};
 use std::rt::Files;
 use std::time::Clock;
 
@@ -30,8 +31,9 @@ impl Ports {
         words: &Words<'_>,
         said: &[&str],
     ) -> Result<Ports, RunFault> {
-        let listeners = listen(rt, alloc, settings, words.listen)?;
-        let (status, clerks) = listen_for_questions(rt, alloc, settings, words, said)?;
+        let address = address_of(rt, words.listen)?;
+        let listeners = listen(rt, alloc, settings, address)?;
+        let (status, clerks) = listen_for_questions(rt, alloc, settings, words, address, said)?;
         Ok(Ports {
             listeners,
             status,
@@ -43,12 +45,31 @@ impl Ports {
 /// A listener at this port.
 fn listen_at<R: Net<Listener = TcpListener, Stream = TcpStream>>(
     rt: &R,
-    address: Ipv4Addr,
+    address: IpAddr,
     port: u16,
 ) -> Result<TcpListener, RunFault> {
     match TcpListener::bind(rt, (address, port)) {
         Ok(listener) => Ok(listener),
-        Err(error) => Err(RunFault::Port(port, SystemFault::new(SystemCall::Listen, &error))),
+        Err(error) => {
+            let fault = SystemFault::new(SystemCall::Listen, &error);
+            Err(RunFault::Port(SocketAddr::new(address, port), fault))
+        }
+    }
+}
+
+/// The address, or the first one that the system tells for the name.
+fn address_of<R: Net>(rt: &R, host: Host<'_>) -> Result<IpAddr, RunFault> {
+    let name = match host {
+        Host::Address(address) => return Ok(address),
+        Host::Name(name) => name,
+    };
+    match (name, 0u16).to_socket_addrs(rt) {
+        Ok(mut found) => match found.next() {
+            Some(first) => Ok(first.ip()),
+            None => Err(RunFault::Host),
+        },
+        Err(error) if error.kind() == ErrorKind::OutOfMemory => Err(RunFault::Memory(AllocError)),
+        Err(_) => Err(RunFault::Host),
     }
 }
 
@@ -57,7 +78,7 @@ fn listen<R: Net<Listener = TcpListener, Stream = TcpStream>>(
     rt: &R,
     alloc: Global,
     settings: &Settings,
-    address: Ipv4Addr,
+    address: IpAddr,
 ) -> Result<Vec<TcpListener>, RunFault> {
     let mut listeners = Vec::new(alloc);
     for place in 0..settings.nodes {
@@ -88,14 +109,16 @@ fn listen_for_questions<
     alloc: Global,
     settings: &Settings,
     words: &Words<'_>,
+    address: IpAddr,
     said: &[&str],
 ) -> Result<(Option<StatusPort>, Vec<Receiver<Inquiry>>), RunFault> {
     let Some(port) = words.status else {
         return Ok((None, Vec::new(alloc)));
     };
-    let listener = listen_at(rt, words.listen, port)?;
+    let listener = listen_at(rt, address, port)?;
     let facts = Facts {
         version: VERSION,
+        ring: None,
         dir: String::from_str(alloc, settings.dir.as_str())?,
         started: match rt.since_1970() {
             Ok(now) => now.as_secs(),

@@ -6,12 +6,13 @@ use crate::run_fault::RunFault;
 use crate::shared::Shared;
 use crate::site::Site;
 use crate::start_latch::{Shortage, StartLatch};
+use crate::troubles::Troubles;
 use crate::unopened::{Place, print_fault};
 use crate::watch::{News, Watch};
-use disk_model::Device;
+use disk_model::{Device, SystemFault};
 use log_lines::{Level, LogForm};
 use ring_records::{NodeNo, Shown};
-use ring_watch::StatusPort;
+use ring_watch::{StatusPort, Tally};
 use std::alloc::{AllocError, Global};
 use std::io::Write;
 use std::marker::Brand;
@@ -21,8 +22,8 @@ use std::thread::{JoinHandle, Scope, Threads};
 use std::time::Clock;
 
 /// A ring that is to be served: its nodes in their order, their letterboxes, the port at which an operator is told of it, if
-/// there is one, whether it ends with the first node that fails, the folder of its nodes, and what a line on standard error
-/// begins with.
+/// there is one, whether it ends with the first node that fails, the folder of its nodes, what a line on standard error
+/// begins with, and whether all that happens is told there.
 #[derive(Drop)]
 pub struct Ring<V: Device> {
     pub sites: Vec<Site<V>>,
@@ -31,6 +32,7 @@ pub struct Ring<V: Device> {
     pub fail_stop: bool,
     pub dir: String,
     pub log: LogForm,
+    pub verbose: bool,
 }
 
 /// What each node of a ring holds at the end, in their order, `None` where it failed.
@@ -140,38 +142,57 @@ fn let_go<R: Threads + Wait + Clock + Send + Copy + 'static, O: Write>(
     outcome
 }
 
-/// Tells of nodes that fail, are full or find no memory, until no node runs any more. Whether it is to end before: at the
-/// first node that fails, where that is asked for. Behind one that fails its file is told, with what the system answered.
+/// Tells that the node has failed, and behind it of its file, with what the system answered.
+fn tell_failure<C: Clock, E: Write>(
+    log: &mut Log<'_, C, E>,
+    dir: &str,
+    node: NodeNo,
+    cause: Option<SystemFault>,
+) {
+    let _ = writeln!(log.line(Level::Error), "ringd: node {node} failed");
+    if let Some(fault) = cause {
+        let _ = print_fault(log, dir, Place::Journal, node, fault);
+    }
+}
+
+/// Tells that the ring ends, where notices are told, since this node failed.
+fn tell_fail_stop<C: Clock, E: Write>(log: &mut Log<'_, C, E>, node: NodeNo) {
+    if log.has_notices() {
+        let _ = writeln!(
+            log.line(Level::Notice),
+            "ringd: ends, as node {node} failed"
+        );
+    }
+}
+
+/// Tells of nodes that fail, hang, are full or find no memory, and that they do no more, until no node runs any more. Whether
+/// it is to end before: at the first node that fails, where that is asked for.
 fn tell_of_nodes<R: Wait + Clock, E: Write>(
     rt: &R,
-    watch: &Watch,
+    shared: &Shared,
     fail_stop: bool,
     dir: &str,
     log: &mut Log<'_, R, E>,
 ) -> bool {
+    let mut troubles = Troubles::new(rt);
     for _ in rt.forever() {
-        match watch.next(rt) {
+        match shared.watch.next(rt) {
             News::Failed(node, cause) => {
-                let _ = writeln!(log.line(Level::Error), "ringd: node {node} failed");
-                if let Some(fault) = cause {
-                    let _ = print_fault(log, dir, Place::Journal, node, fault);
-                }
+                tell_failure(log, dir, node, cause);
+                troubles.fail(node);
                 if fail_stop {
-                    if log.has_notices() {
-                        let _ = writeln!(
-                            log.line(Level::Notice),
-                            "ringd: ends, as node {node} failed"
-                        );
-                    }
+                    tell_fail_stop(log, node);
                     return true;
                 }
             }
-            News::Full(node) => {
-                let _ = writeln!(log.line(Level::Warning), "ringd: node {node} full");
+            News::Event(event) => {
+                let _ = event.print(log.line(Level::Debug));
+                troubles.look_each_second(rt, shared, log);
             }
-            News::Starves(node) => {
-                let _ = writeln!(log.line(Level::Warning), "ringd: node {node} memory");
+            News::LeftOut(count) => {
+                let _ = writeln!(log.line(Level::Debug), "ringd: {count} more are left out");
             }
+            News::Look => troubles.look(rt, shared, log),
             News::Ended => break,
         }
     }
@@ -222,10 +243,20 @@ fn tell_end<O: Write, C: Clock, E: Write>(out: &mut O, log: &mut Log<'_, C, E>, 
     }
 }
 
+/// What the threads of so many nodes count.
+fn take_tallies(alloc: Global, nodes: usize) -> Result<Vec<Tally>, AllocError> {
+    let mut tallies = Vec::with_capacity(alloc, nodes)?;
+    for _ in 0..nodes {
+        tallies.push(Tally::new(alloc)?)?;
+    }
+    Ok(tallies)
+}
+
 /// Serves with all nodes of a ring until the last door is done, and gives the status: 0, or 1 where a node failed, or
 /// `out` does not take what is printed at the end. Prints `serving` first, and at the end for each node in order what it
-/// holds, to `out`; that a node has failed, is full or finds no memory once it is so, to `err`. Meanwhile it tells of the
-/// ring at its status port, where there is one: the nodes have clerks then. With `fail_stop` it ends with the first node
+/// holds, to `out`; that a node has failed, hangs, is full or finds no memory, and that it does no more, to `err`, and with
+/// `verbose` what happens. Meanwhile it tells of the ring at its status port, where there is one: the nodes have clerks then.
+/// With `fail_stop` it ends with the first node
 /// that fails, and leaves the threads of the ring to the end of the program. Refused where memory or a thread is wanting,
 /// or `out` does not take `serving`: nothing was served then, and no thread of a node or of the port goes on.
 pub fn serve_ring<
@@ -241,6 +272,7 @@ pub fn serve_ring<
         fail_stop,
         dir,
         log,
+        verbose,
     } = ring;
     let mut log = Log::new(rt, err, log);
     let status = match status {
@@ -249,7 +281,8 @@ pub fn serve_ring<
     };
     let shared = Shared {
         post,
-        watch: Watch::new(),
+        watch: Watch::new(alloc, verbose)?,
+        tallies: take_tallies(alloc, sites.len())?,
         latch: StartLatch::new(sites.len()),
         status,
     };
@@ -266,7 +299,7 @@ pub fn serve_ring<
         let _ = ring.join(rt);
         return Err(fault);
     }
-    if tell_of_nodes(rt, &shared.watch, fail_stop, dir.as_str(), &mut log) {
+    if tell_of_nodes(rt, &shared, fail_stop, dir.as_str(), &mut log) {
         return Ok(1);
     }
     let ends = ring.join(rt);

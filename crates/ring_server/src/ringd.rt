@@ -17,6 +17,7 @@ use crate::ready::Ready;
 use crate::ring::{Ring, serve_ring};
 use crate::run_fault::RunFault;
 use crate::site::{Doors, Site};
+use crate::taking::{print_settings, take_settings};
 use crate::tellings::{tell_capacities, tell_identity, tell_kept, tell_start};
 use clap::Error;
 use clap::error::ErrorKind as WordFault;
@@ -25,24 +26,25 @@ use disk_model::FileDevice;
 use folder_plan::{FolderStep, Identity};
 use log_lines::{Level, LogForm};
 use ring_records::{NodeNo, Packet};
-use ring_service::{Settings, Words, read_settings, read_words};
-use ring_watch::Inquiry;
+use ring_service::{Settings, Words, read_words};
+use ring_watch::{Inquiry, StatusPort};
 use std::alloc::{AllocError, Global};
 use std::fs::File;
-use std::io::{ErrorKind, Read, Write};
+use std::io::{Read, Write};
 use std::net::{Net, TcpListener, TcpStream};
 use std::rt::Files;
 use std::sync::Wait;
 use std::thread::Threads;
 use std::time::Clock;
-use std::{io, str};
 
 /// Runs `ringd` on these words, of which the first is the program's name, and gives the status to end with. Settings
-/// are read from `settings` where the words name no file.
+/// are read from `settings` where the words name no file. Where `err` is systemd's journal, its lines have the form for that
+/// unless the words say another one.
 pub fn start<R, I: Read, O: Write, E: Write>(
     rt: &R,
     alloc: Global,
     said: &[&str],
+    is_journal: bool,
     settings: &mut I,
     out: &mut O,
     err: &mut E,
@@ -62,12 +64,12 @@ where
         Ok(words) => words,
         Err(error) => return tell_words(&error, out, err),
     };
-    let log = words.log;
+    let log = LogForm::of(words.log, is_journal);
     let mut text = Vec::new(alloc);
     match run(
         rt,
         alloc,
-        &Call { said, words },
+        &Call { said, words, log },
         settings,
         &mut text,
         out,
@@ -101,11 +103,12 @@ fn tell_words<O: Write, E: Write>(error: &Error, out: &mut O, err: &mut E) -> u8
     (error.exit_code() % 256) as u8
 }
 
-/// The words that are said, and what they ask.
+/// The words that are said, what they ask, and what a line on standard error begins with.
 #[derive(Clone, Copy)]
 struct Call<'a> {
     said: &'a [&'a str],
     words: Words<'a>,
+    log: LogForm,
 }
 
 fn run<R, I: Read, O: Write, E: Write>(
@@ -142,7 +145,7 @@ where
             alloc,
             &settings,
             words.ring,
-            &mut Log::new(rt, err, words.log),
+            &mut Log::new(rt, err, call.log),
         ),
         _ if words.check => check(rt, alloc, &settings, words, out),
         (true, _) => serve(rt, alloc, &settings, call, None, out, err),
@@ -152,64 +155,12 @@ where
     match end {
         Ok(status) => Ok(status),
         Err(fault) => {
-            let mut log = Log::new(rt, err, words.log);
+            let mut log = Log::new(rt, err, call.log);
             let _ = writeln!(log.line(Level::Error), "ringd: {fault}");
             let _ = fault.print_answer(&mut log, settings.dir.as_str(), words.listen);
             Ok(fault.status())
         }
     }
-}
-
-/// The settings of a file, or of the input where the path is `-`, and their text.
-fn take_settings<R: Files<File = File>, I: Read>(
-    rt: &R,
-    alloc: Global,
-    path: &str,
-    input: &mut I,
-    text: &mut Vec<u8>,
-) -> Result<Settings, RunFault> {
-    *text = if path == "-" {
-        read_all(alloc, input)?
-    } else {
-        match File::open(rt, path) {
-            Ok(mut file) => read_all(alloc, &mut file)?,
-            Err(_) => return Err(RunFault::Settings),
-        }
-    };
-    match str::from_utf8(text) {
-        Ok(text) => Ok(read_settings(alloc, text)?),
-        Err(_) => Err(RunFault::Settings),
-    }
-}
-
-/// At most so many bytes of settings are read.
-const SETTINGS_BYTES: usize = 1_000_000;
-
-fn read_all<I: Read>(alloc: Global, input: &mut I) -> Result<Vec<u8>, RunFault> {
-    let mut bytes = Vec::new(alloc);
-    match input
-        .take(SETTINGS_BYTES as u64 + 1)
-        .read_to_end(&mut bytes)
-    {
-        Ok(_) if bytes.len() <= SETTINGS_BYTES => Ok(bytes),
-        Ok(_) => Err(RunFault::Settings),
-        Err(error) if error.kind() == ErrorKind::OutOfMemory => Err(RunFault::Memory(AllocError)),
-        Err(_) => Err(RunFault::Settings),
-    }
-}
-
-fn print_settings<O: Write>(out: &mut O, settings: &Settings) -> io::Result<()> {
-    let Settings {
-        nodes,
-        dir,
-        port,
-        capacity,
-    } = settings;
-    write!(
-        out,
-        "nodes {nodes}\ndir {dir}\nport {port}\ncapacity {capacity}\n"
-    )?;
-    out.flush()
 }
 
 /// What a start goes by: the settings, the folder, and whether a ring was made there before.
@@ -221,14 +172,15 @@ struct Basis<'a> {
     is_made: bool,
 }
 
-/// How a ring serves: its ports, the doors of each node, whether it ends with the first node that fails, and what a line on
-/// standard error begins with.
+/// How a ring serves: its ports, the doors of each node, whether it ends with the first node that fails, what a line on
+/// standard error begins with, and whether all that happens is told there.
 #[derive(Drop)]
 struct Serving {
     ports: Ports,
     doors: Doors,
     fail_stop: bool,
     log: LogForm,
+    verbose: bool,
 }
 
 /// Whether a ring was made in the folder before.
@@ -323,7 +275,7 @@ where
     };
     let existing = basis.is_made || words.existing;
     let found = find_ring(rt, alloc, &folder, settings, existing)?;
-    let mut log = Log::new(rt, err, words.log);
+    let mut log = Log::new(rt, err, call.log);
     tell_capacities(&mut log, settings, &found);
     look_at_files(&found)?;
     look_at_descriptors(settings.nodes, words.doors)?;
@@ -331,7 +283,8 @@ where
         ports: Ports::listen(rt, alloc, settings, words, call.said)?,
         doors: Doors::new(words.doors, sessions, words.idle).with_leap(words.leap),
         fail_stop: words.fail_stop,
-        log: words.log,
+        log: call.log,
+        verbose: words.verbose,
     };
     let mut begun = Vec::new(alloc);
     let end = serve_found(rt, &basis, found, serving, &mut begun, out, err);
@@ -375,8 +328,10 @@ where
         doors,
         fail_stop,
         log,
+        verbose,
     } = serving;
     let alloc = basis.alloc;
+    let status = named(rt, basis, status)?;
     let (post, inboxes) = Post::new(alloc, basis.settings.nodes)?;
     let ring = Ring {
         sites: take_sites(alloc, ready, inboxes, listeners, clerks, doors)?,
@@ -385,8 +340,24 @@ where
         fail_stop,
         dir: String::from_str(alloc, basis.settings.dir.as_str())?,
         log,
+        verbose,
     };
     serve_ring(rt, alloc, ring, out, err)
+}
+
+/// The status port, which tells the identity of the ring, where it has one.
+fn named<R: Files<File = File>>(
+    rt: &R,
+    basis: &Basis<'_>,
+    status: Option<StatusPort>,
+) -> Result<Option<StatusPort>, AllocError> {
+    let Some(mut status) = status else {
+        return Ok(None);
+    };
+    if let Ok(Some(identity)) = basis.folder.identity(rt, basis.alloc) {
+        status.name_ring(Some(format!(in basis.alloc; "{identity}")?));
+    }
+    Ok(Some(status))
 }
 
 /// Makes the nodes ready that were found, and marks the folder as one where a ring was made.

@@ -5,10 +5,10 @@ use disk_model::SystemFault;
 use folder_plan::Identity;
 use log_lines::Level;
 use ring_records::NodeNo;
-use ring_service::{Setting, StartFault, line_of_fault, unknown_key};
+use ring_service::{Host, Setting, StartFault, line_of_fault, unknown_key};
 use std::alloc::{AllocError, Global};
 use std::io::Write;
-use std::net::Ipv4Addr;
+use std::net::SocketAddr;
 use std::time::Clock;
 use std::{io, str};
 use thiserror::Error;
@@ -40,9 +40,12 @@ pub enum RunFault {
     /// The system lets the process have so many descriptors, and the ring takes so many.
     #[error("{0} descriptors may be had, and the ring takes {1}")]
     Descriptors(u64, u64),
+    /// The host that is to be listened at has a name of which the system tells no address.
+    #[error("no address is known to listen at")]
+    Host,
     /// A port is in use, or not to be had: the system answered so.
-    #[error("port {0} cannot be used")]
-    Port(u16, SystemFault),
+    #[error("port {} cannot be used", .0.port())]
+    Port(SocketAddr, SystemFault),
     /// A line was not printed.
     #[error("output cannot be written")]
     Output,
@@ -55,19 +58,23 @@ pub enum RunFault {
 }
 
 impl RunFault {
-    /// A line of what the system answered, where a node of this folder was not opened for that, or a port of this address
-    /// not had.
+    /// A line of what the system answered, where a node of this folder was not opened for that, or a port not had, or this
+    /// host has no address.
     pub(crate) fn print_answer<C: Clock, E: Write>(
         &self,
         log: &mut Log<'_, C, E>,
         dir: &str,
-        address: Ipv4Addr,
+        host: Host<'_>,
     ) -> io::Result<()> {
         match self {
             RunFault::Node(node, why) => why.print(log, dir, *node),
-            RunFault::Port(port, fault) => {
-                writeln!(log.line(Level::Error), "ringd: {address}:{port}: {fault}")
+            RunFault::Port(address, fault) => {
+                writeln!(log.line(Level::Error), "ringd: {address}: {fault}")
             }
+            RunFault::Host => match host {
+                Host::Name(name) => writeln!(log.line(Level::Error), "ringd: {name}: no address"),
+                Host::Address(_) => Ok(()),
+            },
             _ => Ok(()),
         }
     }

@@ -1,17 +1,26 @@
 //! What the threads of a ring have the program tell while they serve.
+use crate::event::{Event, Events};
 use disk_model::SystemFault;
 use ring_records::NodeNo;
+use std::alloc::{AllocError, Global};
+use std::sync::atomic::{AtomicBool, Ordering};
 use std::sync::{Condvar, Mutex, Wait};
+use std::time::{Clock, Duration};
+
+/// For how many milliseconds nothing is looked at where nobody leaves word.
+const PAUSE: u64 = 1_000;
 
 /// What is to be told of the ring.
 #[derive(Clone, Copy)]
 pub(crate) enum News {
     /// This node has failed, with what the system answered, where that is known.
     Failed(NodeNo, Option<SystemFault>),
-    /// This node refused a message for want of room.
-    Full(NodeNo),
-    /// This node's rounds have been refused for a while for want of memory.
-    Starves(NodeNo),
+    /// This has happened.
+    Event(Event),
+    /// So many events were left out behind those that were told.
+    LeftOut(u64),
+    /// Time to look at the nodes: a second has passed, or something changed.
+    Look,
     /// No node runs any more.
     Ended,
 }
@@ -42,12 +51,27 @@ impl Word {
     }
 }
 
+/// What a node wants, as its threads say.
+#[derive(Clone, Copy)]
+pub(crate) struct Wants {
+    /// Room: it refused a message or a client for want of that.
+    pub(crate) room: bool,
+    /// Memory: its rounds have been refused for a while for want of that.
+    pub(crate) memory: bool,
+}
+
+const NOTHING: Wants = Wants {
+    room: false,
+    memory: false,
+};
+
 #[derive(Drop)]
 struct Book {
     failed: [Word; 16],
     causes: [Option<SystemFault>; 16],
-    full: [Word; 16],
-    starves: [Word; 16],
+    wants: [Wants; 16],
+    has_changed: bool,
+    events: Events,
     has_ended: bool,
 }
 
@@ -70,16 +94,40 @@ impl Book {
         }
     }
 
-    /// The next that is to be told, a failed node before all else.
+    fn wants(&self, node: NodeNo) -> Wants {
+        match self.wants.get(place(node)) {
+            Some(wants) => *wants,
+            None => NOTHING,
+        }
+    }
+
+    /// The node wants this from now on.
+    fn want(&mut self, node: NodeNo, wants: Wants) {
+        if let Some(known) = self.wants.get_mut(place(node)) {
+            self.has_changed |= known.room != wants.room || known.memory != wants.memory;
+            *known = wants;
+        }
+    }
+
+    /// Whether some node wants something.
+    fn is_anything_wanted(&self) -> bool {
+        self.wants.iter().any(|wants| wants.room || wants.memory)
+    }
+
+    /// The next that is to be told: a failed node before all else, and the end behind all.
     fn next(&mut self) -> Option<News> {
         if let Some(node) = first_due(&mut self.failed) {
             return Some(News::Failed(node, self.cause(node)));
         }
-        if let Some(node) = first_due(&mut self.full) {
-            return Some(News::Full(node));
+        if self.has_changed {
+            self.has_changed = false;
+            return Some(News::Look);
         }
-        if let Some(node) = first_due(&mut self.starves) {
-            return Some(News::Starves(node));
+        if let Some(event) = self.events.next() {
+            return Some(News::Event(event));
+        }
+        if let Some(count) = self.events.left_out() {
+            return Some(News::LeftOut(count));
         }
         if self.has_ended {
             Some(News::Ended)
@@ -101,27 +149,38 @@ fn first_due(words: &mut [Word; 16]) -> Option<NodeNo> {
     None
 }
 
-/// Where the threads of a ring leave word for the program, each word once. It takes no memory, so none is lost.
+/// Where the threads of a ring leave word for the program. It takes no memory, and none of them waits for what is told.
 #[derive(Drop)]
 pub(crate) struct Watch {
+    is_verbose: bool,
+    // whether some node wants something
+    wanting: AtomicBool,
     book: Mutex<Book>,
     bell: Condvar,
 }
 
 impl Watch {
-    /// Of a ring in which all is well.
-    pub(crate) fn new() -> Watch {
+    /// Of a ring in which all is well, where all that happens is told or not. Refused for want of memory alone.
+    pub(crate) fn new(alloc: Global, is_verbose: bool) -> Result<Watch, AllocError> {
         let book = Book {
             failed: [Word::Silent; 16],
             causes: [None; 16],
-            full: [Word::Silent; 16],
-            starves: [Word::Silent; 16],
+            wants: [NOTHING; 16],
+            has_changed: false,
+            events: Events::new(alloc, is_verbose)?,
             has_ended: false,
         };
-        Watch {
+        Ok(Watch {
+            is_verbose,
+            wanting: AtomicBool::new(false),
             book: Mutex::new(book),
             bell: Condvar::new(),
-        }
+        })
+    }
+
+    /// Whether all that happens is told.
+    pub(crate) fn is_verbose(&self) -> bool {
+        self.is_verbose
     }
 
     /// The node has failed, with what the system answered, where that is known.
@@ -130,20 +189,55 @@ impl Watch {
         self.bell.notify_all();
     }
 
-    /// The node refused a message for want of room.
-    pub(crate) fn fill<R: Wait>(&self, rt: &R, node: NodeNo) {
-        if let Some(word) = self.book.lock(rt).full.get_mut(place(node)) {
-            word.ask();
+    /// This has happened. It is told where all is.
+    pub(crate) fn hear<R: Wait>(&self, rt: &R, event: Event) {
+        if !self.is_verbose {
+            return;
         }
+        self.book.lock(rt).events.add(event);
         self.bell.notify_all();
+    }
+
+    /// The node refused a message or a client for want of room.
+    pub(crate) fn fill<R: Wait>(&self, rt: &R, node: NodeNo) {
+        let mut book = self.book.lock(rt);
+        let wants = Wants {
+            room: true,
+            memory: book.wants(node).memory,
+        };
+        self.change(&mut book, node, wants);
     }
 
     /// The node's rounds have been refused for a while for want of memory.
     pub(crate) fn starve<R: Wait>(&self, rt: &R, node: NodeNo) {
-        if let Some(word) = self.book.lock(rt).starves.get_mut(place(node)) {
-            word.ask();
+        let mut book = self.book.lock(rt);
+        let wants = Wants {
+            room: book.wants(node).room,
+            memory: true,
+        };
+        self.change(&mut book, node, wants);
+    }
+
+    /// The node stands for a client, durably: so it has room and memory.
+    pub(crate) fn ease<R: Wait>(&self, rt: &R, node: NodeNo) {
+        if self.wanting.load(Ordering::SeqCst) {
+            self.change(&mut self.book.lock(rt), node, NOTHING);
         }
-        self.bell.notify_all();
+    }
+
+    /// The node wants this from now on. Where that is new it is looked at.
+    fn change(&self, book: &mut Book, node: NodeNo, wants: Wants) {
+        book.want(node, wants);
+        self.wanting
+            .store(book.is_anything_wanted(), Ordering::SeqCst);
+        if book.has_changed {
+            self.bell.notify_all();
+        }
+    }
+
+    /// What the node wants now.
+    pub(crate) fn wants<R: Wait>(&self, rt: &R, node: NodeNo) -> Wants {
+        self.book.lock(rt).wants(node)
     }
 
     /// No node runs any more.
@@ -152,19 +246,22 @@ impl Watch {
         self.bell.notify_all();
     }
 
-    /// Waits for what is to be told next.
-    pub(crate) fn next<R: Wait>(&self, rt: &R) -> News {
+    /// Waits for what is to be told next, for a second at most.
+    pub(crate) fn next<R: Wait + Clock>(&self, rt: &R) -> News {
         let mut book = self.book.lock(rt);
-        for _ in rt.forever() {
-            if let Some(news) = book.next() {
-                return news;
-            }
-            book = self.bell.wait(rt, book);
+        if let Some(news) = book.next() {
+            return news;
         }
-        News::Ended
+        let pause = Duration::from_millis(PAUSE);
+        let (guard, _) = self.bell.wait_timeout(rt, book, pause);
+        book = guard;
+        match book.next() {
+            Some(news) => news,
+            None => News::Look,
+        }
     }
 }
 
-fn place(node: NodeNo) -> usize {
+pub(crate) fn place(node: NodeNo) -> usize {
     usize::from(node.number()) - 1
 }

@@ -1,6 +1,7 @@
 pub mod Begun
 pub mod Entry
 pub mod Flushers
+pub mod Hosts
 pub mod Leaders
 pub mod Props
 pub mod Restarts

@@ -1,8 +1,6 @@
 -- The words of ringd.
 use Rattle.std.specs.Prelude.{ℕ, Bool, true, false, ◌≡◌, ◌≤◌, List, [], ◌∷◌, Option, Some, None, Ok, IsSomeAnd, pos, unwrap_or, codes}
-use Rattle.std.specs.Net.Grammar.{IsIpv4Text}
 use Rattle.std.specs.Str.Parse.{IsNumeral, digits_value, without_leading_plus}
-use Rattle.std.specs.declared.net.ipv4_addr.Ipv4Addr.{Ipv4Addr}
 use Rattle.ring_records.specs.declared.limits.TheConstants.{DOORS}
 use Rattle.hex.specs.Hex.{decode_of}
 use Rattle.folder_plan.specs.declared.identity.Identity.{Identity}
@@ -12,13 +10,14 @@ use Rattle.clap.specs.Words.{App, HasMatchesOf, Rule, first_value, found_of, new
 use Rattle.clap.specs.declared.builder.action.ArgAction.TheVariants.{SetTrue}
 use Rattle.clap.specs.declared.builder.value_parser.ValueParser.TheVariants as parser
 use Rattle.clap.specs.declared.parser.matches.ArgMatches.{ArgMatches}
+use Rattle.ring_service.specs.Hosts.{IsHost}
 use Rattle.ring_service.specs.declared.words.Words.{Words}
 
 -- `--settings PATH`, which is `-` where it is not given
 abbrev pub settings_rule : Rule
 settings_rule = record (new_rule (codes "settings")) { long = Some (codes "settings"); value_names = 1; defaults = codes "-" ∷ [] }
 
--- `--listen ADDRESS`, which is 127.0.0.1 where it is not given
+-- `--listen HOST`, which is 127.0.0.1 where it is not given
 abbrev pub listen_rule : Rule
 listen_rule = record (new_rule (codes "listen")) { long = Some (codes "listen"); value_names = 1; defaults = codes "127.0.0.1" ∷ [] }
 
@@ -46,9 +45,9 @@ check_rule = record (flag_rule (codes "check")) { is_free = false }
 abbrev pub ring_rule : Rule
 ring_rule = record (new_rule (codes "ring")) { long = Some (codes "ring"); value_names = 1 }
 
--- `--log FORM`, which is `plain` where it is not given
+-- `--log FORM`
 abbrev pub log_rule : Rule
-log_rule = record (new_rule (codes "log")) { long = Some (codes "log"); value_names = 1; defaults = codes "plain" ∷ [] }
+log_rule = record (new_rule (codes "log")) { long = Some (codes "log"); value_names = 1 }
 
 -- the same with a version, so that `--version` and `-V` are words too
 abbrev pub with_version : App → App
@@ -61,7 +60,7 @@ ringd_app =
     let flags = with_rule (with_rule (with_rule served always_rule) (flag_rule (codes "existing"))) (flag_rule (codes "fail-stop")) in
     let numbers = with_rule (with_rule (with_rule (with_rule flags make_rule) check_rule) (number_rule (codes "doors") 1 DOORS)) (number_rule (codes "idle") 0 86400) in
     let ports = with_rule (with_rule (with_rule (with_rule numbers (number_rule (codes "status") 1 65535)) (number_rule (codes "watchers") 0 64)) listen_rule) (number_rule (codes "leap") 0 999999999) in
-    with_rule (with_rule (with_rule ports ring_rule) log_rule) (flag_rule (codes "leaders"))
+    with_rule (with_rule (with_rule (with_rule ports ring_rule) log_rule) (flag_rule (codes "leaders"))) (flag_rule (codes "verbose"))
 
 abbrev pub IsIn : ℕ → ℕ → ℕ → Type 0
 IsIn low high n = (low ≤ n) × (n ≤ high)
@@ -84,18 +83,15 @@ IsSaid low high else_this (Some text) n = IsNumber low high text n
 abbrev pub Flag : Option (List ℕ) → Bool → Type 0
 Flag text flag = (text ≡ None → flag ≡ false) × ((text ≡ Some (codes "false") → flag ≡ false) × (text ≡ Some (codes "true") → flag ≡ true))
 
--- the text spells this IPv4 address
-abbrev pub IsAddress : List ℕ → Ipv4Addr → Type 0
-IsAddress text address = IsIpv4Text text address
-
 -- the identity whose digits the text is; none where there is no text, and there alone
 abbrev pub IsRing : Option (List ℕ) → Option Identity → Type 0
 IsRing None ring = ring ≡ None
 IsRing (Some text) ring = IsSomeAnd ring (λ id. decode_of text ≡ Ok id.bits)
 
--- the text names this form
-abbrev pub IsForm : List ℕ → LogForm → Type 0
-IsForm text form = text ≡ form_name form
+-- the form that the text names; none where there is no text, and there alone
+abbrev pub IsForm : Option (List ℕ) → Option LogForm → Type 0
+IsForm None form = form ≡ None
+IsForm (Some text) form = IsSomeAnd form (λ told. text ≡ form_name told)
 
 -- what clap matches to the words
 pub record AreTold (words : List (List ℕ)) (told : Words) : Type 0 where
@@ -112,8 +108,9 @@ pub record AreTold (words : List (List ℕ)) (told : Words) : Type 0 where
   pub silence : IsSaid 0 86400 0 (one_text (found_of matches) (codes "idle")) told.idle
   pub told_at : IsMatched 1 65535 (one_text (found_of matches) (codes "status")) told.status
   pub waits : IsSaid 0 64 16 (one_text (found_of matches) (codes "watchers")) told.watchers
-  pub listens_at : IsAddress (unwrap_or (first_value (found_of matches) (codes "listen")) (codes "127.0.0.1")) told.listen
+  pub listens_at : IsHost (unwrap_or (first_value (found_of matches) (codes "listen")) (codes "127.0.0.1")) told.listen
   pub leaps : IsSaid 0 999999999 1000000 (one_text (found_of matches) (codes "leap")) told.leap
   pub is_of : IsRing (first_value (found_of matches) (codes "ring")) told.ring
-  pub tells_as : IsForm (unwrap_or (first_value (found_of matches) (codes "log")) (codes "plain")) told.log
+  pub tells_as : IsForm (first_value (found_of matches) (codes "log")) told.log
+  pub tells_more : Flag (one_text (found_of matches) (codes "verbose")) told.verbose
   pub leads : Flag (one_text (found_of matches) (codes "leaders")) told.leaders

@@ -2,19 +2,29 @@
 ghost use Rattle.std.specs.Prelude.{◌≡◌, ◌<◌, ◌≤◌, ◌||◌, true, false, nat_lt, is_none, Option, Some, None, IfOk, IfSome, map, codes, unwrap_or};
 ghost use Rattle.ring_records.specs.declared.limits.TheConstants.{DOORS};
 ghost use Rattle.clap.specs.Words.{app_of, first_value, found_of, one_text, rule_of, with_rule};
-ghost use Rattle.ring_service.specs.Words.{AreTold, Flag, IsAddress, IsForm, IsIn, IsMatched, IsRing, IsSaid};
-ghost use Rattle.ring_service.specs.Words.{always_rule, check_rule, flag_rule, listen_rule, log_rule, make_rule, number_rule, ring_rule, ringd_app, settings_rule};
+ghost use Rattle.ring_service.specs.Words.{AreTold, Flag, IsForm, IsHost, IsIn, IsMatched, IsRing, IsSaid};
+ghost use Rattle.ring_service.specs.Words.{ringd_app};
 
+mod args;
+
+use crate::host::Host;
+use args::{
+    always_arg, check_arg, doors_arg, existing_arg, fail_stop_arg, idle_arg, leaders_arg, leap_arg,
+    listen_arg, log_arg, make_arg, ring_arg, serve_arg, settings_arg, status_arg, verbose_arg,
+    watchers_arg,
+};
 use clap::error::ErrorKind;
-use clap::{Arg, ArgAction, ArgMatches, Command, Error, value_parser};
+use clap::{Arg, ArgMatches, Command, Error};
 use folder_plan::Identity;
 use log_lines::LogForm;
 use ring_records::DOORS;
 use std::alloc::{AllocError, Global};
-use std::net::Ipv4Addr;
 
 /// The version of the program.
 pub const VERSION: &str = "0.1.0";
+
+// The same with the layout that it writes, and reads as the newest one.
+const VERSION_AND_LAYOUT: &str = "0.1.0 (layout 3)";
 
 /// What the words ask.
 #[derive(Clone, Copy, Debug, PartialEq, Eq)]
@@ -44,21 +54,23 @@ pub struct Words<'a> {
     pub status: Option<u16>,
     /// How many clients of that port may wait for a leader, up to 64.
     pub watchers: u32,
-    /// The address of this host at which all of them listen.
-    pub listen: Ipv4Addr,
+    /// Where on this host all of them listen.
+    pub listen: Host<'a>,
     /// How far above the latest known term of its group a client may stand, up to 999,999,999; 0 is for no bound.
     pub leap: u32,
     /// The identity that the ring of the folder has to have.
     pub ring: Option<Identity>,
-    /// What stands before each line on standard error.
-    pub log: LogForm,
+    /// What stands before each line on standard error, where that is said.
+    pub log: Option<LogForm>,
+    /// Whether it is told there of sessions, retires and elections too.
+    pub verbose: bool,
     /// Whether a look at the nodes tells the leaders that each one knows. No words say this without `check`.
     pub leaders: bool,
 }
 
 /// Reads words, of which the first is the program's name: `[--settings PATH] [--serve K | --always | --make
 /// | --check [--leaders]] [--existing] [--fail-stop] [--doors S] [--idle SECONDS] [--status PORT] [--watchers W]
-/// [--listen ADDRESS] [--leap N] [--ring ID] [--log FORM]`.
+/// [--listen HOST] [--leap N] [--ring ID] [--log FORM] [--verbose]`.
 /// Refused with what is to be printed, and the status.
 pub fn read_words<'a>(alloc: Global, words: &'a [&'a str]) -> Result<Words<'a>, Error>
     ensures told { IfOk result (λ w. AreTold (map (λ word. word.now) words.now) w) }
@@ -100,237 +112,13 @@ impl Objection {
         match self {
             Objection::Number => "a number is out of its range",
             Objection::Doors => "--doors takes 1 to 31 beside --status",
-            Objection::Listen => "--listen takes an IPv4 address, as 127.0.0.1",
+            Objection::Listen =>
+                "--listen takes an address of this host, as 127.0.0.1 or ::1, or its name",
             Objection::Ring => "--ring takes the 32 hexadecimal digits of a ring.id",
             Objection::Log => "--log takes plain, journal or time",
             Objection::Leaders => "--leaders stands beside --check alone",
         }
     }
-}
-
-/// `--settings PATH`
-fn settings_arg<'a>(alloc: Global) -> Arg<'a>
-    ensures rule { rule_of result ≡ settings_rule }
-    ensures local { result.global ≡ false }
-{
-    Arg::new(alloc, "settings")
-        .long("settings")
-        .value_name("PATH")
-        .help_heading("Ring")
-        .help("Reads the settings from this file; - is standard input")
-        .default_value("-")
-}
-
-/// `--serve K`
-fn serve_arg<'a>(alloc: Global) -> Arg<'a>
-    ensures rule { rule_of result ≡ number_rule (codes "serve") 1 1000 }
-    ensures local { result.global ≡ false }
-{
-    Arg::new(alloc, "serve")
-        .long("serve")
-        .value_name("K")
-        .help_heading("Sessions")
-        .help(
-            "Serves K sessions at each node, at all its doors together, 1 to 1000, and ends; the settings alone are \
-             shown without this and --always",
-        )
-        .value_parser(value_parser!(u32).range(1..=1000))
-}
-
-/// `--always`
-fn always_arg<'a>(alloc: Global) -> Result<Arg<'a>, AllocError>
-    ensures rule { IfOk result (λ arg. rule_of arg ≡ always_rule) }
-    ensures local { IfOk result (λ arg. arg.global ≡ false) }
-{
-    Arg::new(alloc, "always")
-        .long("always")
-        .help_heading("Sessions")
-        .help("Serves sessions without end, in place of --serve")
-        .action(ArgAction::SetTrue)
-        .conflicts_with("serve")
-}
-
-/// `--existing`
-fn existing_arg<'a>(alloc: Global) -> Arg<'a>
-    ensures rule { rule_of result ≡ flag_rule (codes "existing") }
-    ensures local { result.global ≡ false }
-{
-    Arg::new(alloc, "existing")
-        .long("existing")
-        .help_heading("Ring")
-        .help("Makes no node: each has to be there")
-        .action(ArgAction::SetTrue)
-}
-
-/// `--fail-stop`
-fn fail_stop_arg<'a>(alloc: Global) -> Arg<'a>
-    ensures rule { rule_of result ≡ flag_rule (codes "fail-stop") }
-    ensures local { result.global ≡ false }
-{
-    Arg::new(alloc, "fail-stop")
-        .long("fail-stop")
-        .help_heading("Ring")
-        .help("Ends with status 1 where a node fails; a start goes on")
-        .action(ArgAction::SetTrue)
-}
-
-/// `--make`
-fn make_arg<'a>(alloc: Global) -> Result<Arg<'a>, AllocError>
-    ensures rule { IfOk result (λ arg. rule_of arg ≡ make_rule) }
-    ensures local { IfOk result (λ arg. arg.global ≡ false) }
-{
-    Arg::new(alloc, "make")
-        .long("make")
-        .help_heading("Ring")
-        .help("Makes the nodes that are not there, and ends")
-        .action(ArgAction::SetTrue)
-        .conflicts_with("existing")?
-        .conflicts_with("serve")?
-        .conflicts_with("always")
-}
-
-/// `--check`
-fn check_arg<'a>(alloc: Global) -> Result<Arg<'a>, AllocError>
-    ensures rule { IfOk result (λ arg. rule_of arg ≡ check_rule) }
-    ensures local { IfOk result (λ arg. arg.global ≡ false) }
-{
-    Arg::new(alloc, "check")
-        .long("check")
-        .help_heading("Ring")
-        .help("Looks at the nodes of a ring that is stopped, changes nothing, and ends")
-        .action(ArgAction::SetTrue)
-        .conflicts_with("make")?
-        .conflicts_with("serve")?
-        .conflicts_with("always")
-}
-
-/// `--doors S`
-fn doors_arg<'a>(alloc: Global) -> Arg<'a>
-    ensures rule { rule_of result ≡ number_rule (codes "doors") 1 DOORS }
-    ensures local { result.global ≡ false }
-{
-    Arg::new(alloc, "doors")
-        .long("doors")
-        .value_name("S")
-        .help_heading("Sessions")
-        .help("Serves S sessions side by side at each node, 1 to 32; 1 where it is not said")
-        .value_parser(value_parser!(u32).range(1..=i64::from(DOORS)))
-}
-
-/// `--idle SECONDS`
-fn idle_arg<'a>(alloc: Global) -> Arg<'a>
-    ensures rule { rule_of result ≡ number_rule (codes "idle") 0 86400 }
-    ensures local { result.global ≡ false }
-{
-    Arg::new(alloc, "idle")
-        .long("idle")
-        .value_name("SECONDS")
-        .help_heading("Sessions")
-        .help(
-            "Ends a session that has sent no whole line, or taken no whole answer, for so long, 0 to 86400; 0, for \
-             never, where it is not said",
-        )
-        .value_parser(value_parser!(u32).range(0..=86_400))
-}
-
-/// `--status PORT`
-fn status_arg<'a>(alloc: Global) -> Arg<'a>
-    ensures rule { rule_of result ≡ number_rule (codes "status") 1 65535 }
-    ensures local { result.global ≡ false }
-{
-    Arg::new(alloc, "status")
-        .long("status")
-        .value_name("PORT")
-        .help_heading("Status")
-        .help(
-            "Tells of the ring by HTTP at this port, 1 to 65535: /, /live, /ready, /health, /status, /metrics, /leaders; \
-             with 31 doors at most",
-        )
-        .value_parser(value_parser!(u32).range(1..=65_535))
-}
-
-/// `--watchers W`
-fn watchers_arg<'a>(alloc: Global) -> Arg<'a>
-    ensures rule { rule_of result ≡ number_rule (codes "watchers") 0 64 }
-    ensures local { result.global ≡ false }
-{
-    Arg::new(alloc, "watchers")
-        .long("watchers")
-        .value_name("W")
-        .help_heading("Status")
-        .help("Lets W clients wait for a leader there, 0 to 64; 16 where it is not said")
-        .value_parser(value_parser!(u32).range(0..=64))
-}
-
-/// `--listen ADDRESS`
-fn listen_arg<'a>(alloc: Global) -> Arg<'a>
-    ensures rule { rule_of result ≡ listen_rule }
-    ensures local { result.global ≡ false }
-{
-    Arg::new(alloc, "listen")
-        .long("listen")
-        .value_name("ADDRESS")
-        .help_heading("Ring")
-        .help(
-            "Listens at this IPv4 address of the host; who reaches it may ask all, and nothing is encrypted",
-        )
-        .default_value("127.0.0.1")
-}
-
-/// `--leap N`
-fn leap_arg<'a>(alloc: Global) -> Arg<'a>
-    ensures rule { rule_of result ≡ number_rule (codes "leap") 0 999999999 }
-    ensures local { result.global ≡ false }
-{
-    Arg::new(alloc, "leap")
-        .long("leap")
-        .value_name("N")
-        .help_heading("Sessions")
-        .help(
-            "Refuses a client that stands for a term more than N above the latest that is known for its group, 0 to \
-             999999999; 0, for no bound; 1000000 where it is not said",
-        )
-        .value_parser(value_parser!(u32).range(0..=999_999_999))
-}
-
-/// `--ring ID`
-fn ring_arg<'a>(alloc: Global) -> Arg<'a>
-    ensures rule { rule_of result ≡ ring_rule }
-    ensures local { result.global ≡ false }
-{
-    Arg::new(alloc, "ring")
-        .long("ring")
-        .value_name("ID")
-        .help_heading("Ring")
-        .help("Refuses a folder whose ring.id tells not this identity, or that has none")
-}
-
-/// `--log FORM`
-fn log_arg<'a>(alloc: Global) -> Arg<'a>
-    ensures rule { rule_of result ≡ log_rule }
-    ensures local { result.global ≡ false }
-{
-    Arg::new(alloc, "log")
-        .long("log")
-        .value_name("FORM")
-        .help_heading("Status")
-        .help(
-            "Puts before each line on standard error nothing where FORM is plain, its level as systemd reads it where it \
-             is journal, or the time and the level where it is time; the last two tell more",
-        )
-        .default_value("plain")
-}
-
-/// `--leaders`
-fn leaders_arg<'a>(alloc: Global) -> Arg<'a>
-    ensures rule { rule_of result ≡ flag_rule (codes "leaders") }
-    ensures local { result.global ≡ false }
-{
-    Arg::new(alloc, "leaders")
-        .long("leaders")
-        .help_heading("Ring")
-        .help("Tells with --check the latest leader of each group by each node")
-        .action(ArgAction::SetTrue)
 }
 
 /// The command with one more argument.
@@ -345,9 +133,9 @@ fn with_arg<'a>(command: Command<'a>, arg: Arg<'a>) -> Result<Command<'a>, Alloc
 fn command<'a>(alloc: Global) -> Result<Command<'a>, AllocError>
     ensures { IfOk result (λ command. app_of command ≡ ringd_app) }
 {
-    let named = Command::new(alloc, "ringd").version(VERSION).about(
-        "A ring of durable nodes that elect a leader for each group and term",
-    );
+    let named = Command::new(alloc, "ringd")
+        .version(VERSION_AND_LAYOUT)
+        .about("A ring of durable nodes that elect a leader for each group and term");
     let command = with_arg(named, settings_arg(alloc))?;
     let command = with_arg(command, serve_arg(alloc))?;
     let command = with_arg(command, always_arg(alloc)?)?;
@@ -363,7 +151,8 @@ fn command<'a>(alloc: Global) -> Result<Command<'a>, AllocError>
     let command = with_arg(command, leap_arg(alloc))?;
     let command = with_arg(command, ring_arg(alloc))?;
     let command = with_arg(command, log_arg(alloc))?;
-    with_arg(command, leaders_arg(alloc))
+    let command = with_arg(command, leaders_arg(alloc))?;
+    with_arg(command, verbose_arg(alloc))
 }
 
 /// The number that is matched to a word. Refused where what is matched is no number in this range, which the word's
@@ -394,17 +183,17 @@ fn port(matches: &ArgMatches<'_>) -> Result<Option<u16>, Objection>
     }
 }
 
-/// The address that is matched to `--listen`.
-fn address(matches: &ArgMatches<'_>) -> Result<Ipv4Addr, Objection>
-    ensures { IfOk result (IsAddress (unwrap_or (first_value (found_of matches.now) (codes "listen")) (codes "127.0.0.1"))) }
+/// Where all listen by what is matched to `--listen`.
+fn host<'a>(matches: &ArgMatches<'a>) -> Result<Host<'a>, Objection>
+    ensures { IfOk result (IsHost (unwrap_or (first_value (found_of matches.now) (codes "listen")) (codes "127.0.0.1"))) }
 {
     let text = match matches.get_str("listen") {
         Some(text) => text,
         None => "127.0.0.1",
     };
-    match text.parse::<Ipv4Addr>() {
-        Ok(address) => Ok(address),
-        Err(_) => Err(Objection::Listen),
+    match Host::read(text) {
+        Some(host) => Ok(host),
+        None => Err(Objection::Listen),
     }
 }
 
@@ -422,15 +211,14 @@ fn ring(matches: &ArgMatches<'_>) -> Result<Option<Identity>, Objection>
 }
 
 /// The form that is matched to `--log`.
-fn form(matches: &ArgMatches<'_>) -> Result<LogForm, Objection>
-    ensures { IfOk result (IsForm (unwrap_or (first_value (found_of matches.now) (codes "log")) (codes "plain"))) }
+fn form(matches: &ArgMatches<'_>) -> Result<Option<LogForm>, Objection>
+    ensures { IfOk result (IsForm (first_value (found_of matches.now) (codes "log"))) }
 {
-    let text = match matches.get_str("log") {
-        Some(text) => text,
-        None => "plain",
+    let Some(text) = matches.get_str("log") else {
+        return Ok(None);
     };
     match LogForm::read(text) {
-        Some(form) => Ok(form),
+        Some(form) => Ok(Some(form)),
         None => Err(Objection::Log),
     }
 }
@@ -459,11 +247,12 @@ fn words_of<'a>(matches: &ArgMatches<'a>) -> Result<Words<'a>, Objection>
     ensures port { IfOk result (λ w. IfSome w.status (λ port. (1 ≤ port) × (w.doors < DOORS))) }
     ensures watchers { IfOk result (λ w. IsSaid 0 64 16 (one_text (found_of matches.now) (codes "watchers")) w.watchers) }
     ensures places { IfOk result (λ w. IsIn 0 64 w.watchers) }
-    ensures listen { IfOk result (λ w. IsAddress (unwrap_or (first_value (found_of matches.now) (codes "listen")) (codes "127.0.0.1")) w.listen) }
+    ensures listen { IfOk result (λ w. IsHost (unwrap_or (first_value (found_of matches.now) (codes "listen")) (codes "127.0.0.1")) w.listen) }
     ensures far { IfOk result (λ w. IsSaid 0 999999999 1000000 (one_text (found_of matches.now) (codes "leap")) w.leap) }
     ensures leap { IfOk result (λ w. IsIn 0 999999999 w.leap) }
     ensures ring { IfOk result (λ w. IsRing (first_value (found_of matches.now) (codes "ring")) w.ring) }
-    ensures log { IfOk result (λ w. IsForm (unwrap_or (first_value (found_of matches.now) (codes "log")) (codes "plain")) w.log) }
+    ensures log { IfOk result (λ w. IsForm (first_value (found_of matches.now) (codes "log")) w.log) }
+    ensures verbose { IfOk result (λ w. Flag (one_text (found_of matches.now) (codes "verbose")) w.verbose) }
     ensures leaders { IfOk result (λ w. Flag (one_text (found_of matches.now) (codes "leaders")) w.leaders) }
     ensures beside { IfOk result (λ w. w.leaders ≡ true → w.check ≡ true) }
 {
@@ -480,7 +269,7 @@ fn words_of<'a>(matches: &ArgMatches<'a>) -> Result<Words<'a>, Objection>
     if !have_place(doors, status) {
         return Err(Objection::Doors);
     }
-    let listen = address(matches)?;
+    let listen = host(matches)?;
     let leap = number(matches, "leap", 0, 999_999_999)?;
     let ring = ring(matches)?;
     let log = form(matches)?;
@@ -505,6 +294,7 @@ fn words_of<'a>(matches: &ArgMatches<'a>) -> Result<Words<'a>, Objection>
         leap: leap.unwrap_or(1_000_000),
         ring,
         log,
+        verbose: matches.get_flag("verbose"),
         leaders,
     })
 }

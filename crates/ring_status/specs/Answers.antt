@@ -1,6 +1,8 @@
 -- The bytes of an answer.
-use Rattle.std.specs.Prelude.{ℕ, List, [], ◌++◌, length, codes}
+use Rattle.std.specs.Prelude.{ℕ, List, [], ◌++◌, length, codes, Option, Some, None}
 use Rattle.std.specs.Fmt.{decimal}
+use Rattle.httpdate.specs.Date.{date_text}
+use Rattle.httpdate.specs.declared.date.HttpDate.{HttpDate}
 use Rattle.ring_status.specs.declared.answer.Content.{Content}
 use Rattle.ring_status.specs.declared.answer.Content.TheVariants.{Text, Json, Metrics, Page}
 use Rattle.ring_status.specs.declared.request.Method.{Method}
@@ -46,20 +48,25 @@ field_of status.Unavailable = []
 unfoldable pub start_of : Status → Content → List ℕ
 start_of status content = codes "HTTP/1.1 " ++ status_line status ++ codes "\r\nContent-Type: " ++ content_text content ++ codes "\r\n"
 
-unfoldable pub fields_of : Status → ℕ → List ℕ
-fields_of status bytes = length_field status bytes ++ field_of status
+-- when it is answered, where there is a clock
+abbrev pub date_field : Option HttpDate → List ℕ
+date_field None = []
+date_field (Some date) = codes "Date: " ++ date_text date ++ codes "\r\n"
+
+unfoldable pub fields_of : Status → ℕ → Option HttpDate → List ℕ
+fields_of status bytes date = length_field status bytes ++ field_of status ++ date_field date
 
 unfoldable pub last_fields : List ℕ
 last_fields = codes "Cache-Control: no-store\r\nConnection: close\r\n\r\n"
 
 -- the head of an answer, whose body has so many bytes
-abbrev pub head_text : Status → Content → ℕ → List ℕ
-head_text status content bytes = start_of status content ++ fields_of status bytes ++ last_fields
+abbrev pub head_text : Status → Content → ℕ → Option HttpDate → List ℕ
+head_text status content bytes date = start_of status content ++ fields_of status bytes date ++ last_fields
 
 -- what is sent of a body
 abbrev pub sent : Method → List ℕ → List ℕ
 sent Get body = body
 sent Head body = []
 
-unfoldable pub answer : Method → Status → Content → List ℕ → List ℕ
-answer method status content body = head_text status content (length body) ++ sent method body
+unfoldable pub answer : Method → Status → Content → Option HttpDate → List ℕ → List ℕ
+answer method status content date body = head_text status content (length body) date ++ sent method body

@@ -1,6 +1,6 @@
 -- What is told as JSON. The members stand in the order of their names.
-use Rattle.std.specs.Prelude.{ℕ, Bool, List, map, codes}
-use Rattle.serde_json.specs.Data.{Data, array, boolean, member, no_members, number, object, string, unsigned}
+use Rattle.std.specs.Prelude.{ℕ, Bool, List, map, codes, Option, Some, None, option_map}
+use Rattle.serde_json.specs.Data.{Data, array, boolean, member, no_members, null, number, object, string, unsigned}
 use Rattle.serde_json.specs.View.{items_of}
 use Rattle.ring_records.specs.declared.decision.Decision.{Decision}
 use Rattle.ring_status.specs.declared.holder.Holder.{Holder}
@@ -79,15 +79,21 @@ node_data node = object
 
 -- ---- the ring
 
+-- an identity, where there is one
+abbrev pub identity_data : Option (List ℕ) → Data
+identity_data None = null
+identity_data (Some text) = string text
+
 unfoldable pub status_data : RingStatus → Data
 status_data ring = object
     (member (codes "dir") (string (ring.dir).now)
     (member (codes "doorless") (each natural (ring.doorless).now)
     (member (codes "idle") (natural ring.idle)
     (member (codes "nodes") (each node_data (ring.nodes).now)
+    (member (codes "ring") (identity_data (option_map (λ text. text.now) ring.ring))
     (member (codes "started") (natural ring.started)
     (member (codes "version") (string (ring.version).now)
-    (member (codes "words") (string (ring.words).now) no_members)))))))
+    (member (codes "words") (string (ring.words).now) no_members))))))))
 
 -- ---- leaders
 

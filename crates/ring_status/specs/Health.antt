@@ -9,13 +9,17 @@ use Rattle.ring_status.specs.declared.values.Condition.{Condition}
 use Rattle.ring_status.specs.declared.values.Condition.TheVariants.{Well, Limit, Full, Hangs, Failed}
 use Rattle.ring_status.specs.declared.values.NodeStatus.{NodeStatus}
 
+-- a device hangs that has been busy with a batch or a checkpoint for so many seconds
+abbrev pub hangs_after : ℕ → Bool
+hangs_after writing = nat_le HANG_SECONDS writing
+
 -- What a node takes that holds so much, whose device has been busy with a batch or a checkpoint for so many seconds: nothing
 -- where it takes no requests; none is durable behind ten seconds; no Stand that would leave less than the reserve free; no
 -- message where no checkpoint makes room for it; and a node takes 1,024 Stands at most.
 abbrev pub condition_of : Holding → ℕ → Condition
 condition_of held writing =
     if not held.is_open then Failed
-    else (if nat_le HANG_SECONDS writing then Hangs
+    else (if hangs_after writing then Hangs
     else (if not held.takes_stands || held.lacks_room then Full
     else (if nat_le STANDS held.stands then Limit
     else Well)))

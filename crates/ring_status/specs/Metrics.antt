@@ -253,6 +253,16 @@ layout_label layout = codes ",layout=\"" ++ decimal layout ++ codes "\"} 1\n"
 abbrev pub version_family : List ℕ → ℕ → List ℕ
 version_family version layout = version_start version ++ layout_label layout
 
+-- which ring it is, where it has an identity
+unfoldable pub identity_sample : List ℕ → List ℕ
+identity_sample text =
+    head_of (codes "cinoweta_ring_info") (codes "1, with the identity of the ring.") (codes "gauge")
+    ++ codes "cinoweta_ring_info" ++ codes "{ring=\"" ++ text ++ codes "\"} 1\n"
+
+abbrev pub identity_family : Option (List ℕ) → List ℕ
+identity_family None = []
+identity_family (Some text) = identity_sample text
+
 abbrev pub value_line : List ℕ → ℕ → List ℕ
 value_line name value = name ++ codes " " ++ decimal value ++ codes "\n"
 
@@ -284,11 +294,11 @@ process_families started process =
     begun_family started ++ resident_family process ++ open_family process ++ max_family process
 
 -- what is told of the program
-abbrev pub program_families : List ℕ → ℕ → Process → List ℕ
-program_families version started process =
-    version_family version LAYOUT ++ started_family started ++ process_families started process
+abbrev pub program_families : List ℕ → Option (List ℕ) → ℕ → Process → List ℕ
+program_families version ring started process =
+    version_family version LAYOUT ++ identity_family ring ++ started_family started ++ process_families started process
 
--- the version, when the ring was started, the process, what is measured, how long commits took, and the refusals
-unfoldable pub metrics_body : List ℕ → ℕ → Process → List NodeStatus → List ℕ
-metrics_body version started process nodes =
-    program_families version started process ++ flat_map (family_of nodes) metrics ++ commits_family nodes ++ refusals_family nodes
+-- the version, which ring it is and when it was started, the process, what is measured, how long commits took, and the refusals
+unfoldable pub metrics_body : List ℕ → Option (List ℕ) → ℕ → Process → List NodeStatus → List ℕ
+metrics_body version ring started process nodes =
+    program_families version ring started process ++ flat_map (family_of nodes) metrics ++ commits_family nodes ++ refusals_family nodes

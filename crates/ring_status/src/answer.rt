@@ -1,9 +1,10 @@
 // The bytes of an answer.
 ghost use Rattle.std.specs.Prelude.{◌≡◌, ◌++◌, IfOk, OnOk, length, string_bytes};
-ghost use Rattle.ring_status.specs.Answers.{answer, content_text, field_of, fields_of, head_text, last_fields, length_field, start_of};
+ghost use Rattle.ring_status.specs.Answers.{answer, content_text, date_field, field_of, fields_of, head_text, last_fields, length_field, start_of};
 
 use crate::request::Method;
 use crate::status::Status;
+use httpdate::HttpDate;
 use std::alloc::{AllocError, Global};
 
 /// What a body is.
@@ -62,12 +63,34 @@ fn print_length(out: &mut String, status: Status, bytes: usize) -> Result<(), Al
     }
 }
 
-#[tactic(auto, unfolding(crate::specs::Answers::fields_of), using(crate::proofs::Appends::two))]
-fn print_fields(out: &mut String, status: Status, bytes: usize) -> Result<(), AllocError>
-    ensures { OnOk result (string_bytes out.new ≡ string_bytes out.old ++ fields_of status bytes) }
+fn print_field(out: &mut String, status: Status) -> Result<(), AllocError>
+    ensures { OnOk result (string_bytes out.new ≡ string_bytes out.old ++ field_of status) }
+{
+    out.push_str(field_of(status))
+}
+
+// Adds when it is answered, as RFC 9110 spells it, where there is a clock.
+fn print_date(out: &mut String, date: Option<HttpDate>) -> Result<(), AllocError>
+    ensures { OnOk result (string_bytes out.new ≡ string_bytes out.old ++ date_field date) }
+{
+    match date {
+        None => Ok(()),
+        Some(date) => write!(out, "Date: {date}\r\n"),
+    }
+}
+
+#[tactic(auto, unfolding(crate::specs::Answers::fields_of), using(crate::proofs::Appends::three))]
+fn print_fields(
+    out: &mut String,
+    status: Status,
+    bytes: usize,
+    date: Option<HttpDate>,
+) -> Result<(), AllocError>
+    ensures { OnOk result (string_bytes out.new ≡ string_bytes out.old ++ fields_of status bytes date) }
 {
     print_length(out, status, bytes)?;
-    out.push_str(field_of(status))
+    print_field(out, status)?;
+    print_date(out, date)
 }
 
 #[tactic(auto, unfolding(crate::specs::Answers::last_fields))]
@@ -84,28 +107,30 @@ fn print_head(
     status: Status,
     content: Content,
     bytes: usize,
+    date: Option<HttpDate>,
 ) -> Result<(), AllocError>
-    ensures { OnOk result (string_bytes out.new ≡ string_bytes out.old ++ head_text status content bytes) }
+    ensures { OnOk result (string_bytes out.new ≡ string_bytes out.old ++ head_text status content bytes date) }
 {
     print_start(out, status, content)?;
-    print_fields(out, status, bytes)?;
+    print_fields(out, status, bytes, date)?;
     print_last_fields(out)
 }
 
 #[tactic(auto, unfolding(crate::specs::Answers::answer))]
-/// The answer to a request: its head, and its body where it asks for more than the head. The connection ends with it.
-/// Refused for want of memory alone.
+/// The answer to a request: its head, which tells when it is answered where there is a clock, and its body where it asks for
+/// more than the head. The connection ends with it. Refused for want of memory alone.
 pub fn answer_text(
     alloc: Global,
     method: Method,
     status: Status,
     content: Content,
+    date: Option<HttpDate>,
     body: &str,
 ) -> Result<String, AllocError>
-    ensures { IfOk result (λ text. string_bytes text ≡ answer method status content body.now) }
+    ensures { IfOk result (λ text. string_bytes text ≡ answer method status content date body.now) }
 {
     let mut out = String::new(alloc);
-    print_head(&mut out, status, content, body.len())?;
+    print_head(&mut out, status, content, body.len(), date)?;
     match method {
         Method::Get => out.push_str(body)?,
         Method::Head => {}

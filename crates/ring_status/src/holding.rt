@@ -1,6 +1,6 @@
 // What a node holds and does, and what that says of what it takes.
 ghost use Rattle.std.specs.Prelude.{◌≡◌, ◌-◌};
-ghost use Rattle.ring_status.specs.Health.{condition_of, is_renewable, stands_left};
+ghost use Rattle.ring_status.specs.Health.{condition_of, hangs_after, is_renewable, stands_left};
 
 use crate::values::Condition;
 use ring_records::{STANDS, Shown};
@@ -35,6 +35,13 @@ pub struct Holding {
 /// For how many seconds a device may be busy with a batch or a checkpoint before it hangs.
 const HANG_SECONDS: u64 = 10;
 
+/// Whether a device hangs that has been busy with a batch or a checkpoint for so many seconds.
+pub fn hangs(writing: u64) -> bool
+    ensures { result ≡ hangs_after writing }
+{
+    writing >= HANG_SECONDS
+}
+
 impl Holding {
     /// What a node takes that holds so much, whose device has been busy with a batch or a checkpoint for so many seconds.
     pub fn condition(&self, writing: u64) -> Condition
@@ -42,7 +49,7 @@ impl Holding {
     {
         if !self.is_open {
             Condition::Failed
-        } else if writing >= HANG_SECONDS {
+        } else if hangs(writing) {
             Condition::Hangs
         } else if !self.takes_stands || self.lacks_room {
             Condition::Full

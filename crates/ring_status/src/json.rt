@@ -1,9 +1,9 @@
 // What is told as JSON.
-ghost use Rattle.std.specs.Prelude.{◌≡◌, false, IfOk, map, string_bytes};
+ghost use Rattle.std.specs.Prelude.{◌≡◌, false, IfOk, map, option_map, string_bytes};
 ghost use Rattle.serde_json.specs.Data.{array, string};
 ghost use Rattle.serde_json.specs.View.{items_of, view};
 ghost use Rattle.serde_json.specs.Written.{compact_text, has_float};
-ghost use Rattle.ring_status.specs.Data.{condition_text, journal_data, latest_data, lead_data, leaders_data, messages_data, natural, node_data, refusal_data, sessions_data, stands_data, status_data};
+ghost use Rattle.ring_status.specs.Data.{condition_text, identity_data, journal_data, latest_data, lead_data, leaders_data, messages_data, natural, node_data, refusal_data, sessions_data, stands_data, status_data};
 
 use crate::holder::Holder;
 use crate::values::{Condition, NodeStatus, RefusalCount, RingStatus};
@@ -136,17 +136,28 @@ fn numbers_json(alloc: Global, nodes: &[NodeNo]) -> Result<Value, AllocError>
     Ok(Value::Array(all))
 }
 
+fn identity_json(alloc: Global, ring: Option<&str>) -> Result<Value, AllocError>
+    ensures { IfOk result (λ v. view v ≡ identity_data (option_map (λ text. text.now) ring.entry)) }
+{
+    match ring {
+        None => Ok(Value::Null),
+        Some(text) => Ok(Value::String(String::from_str(alloc, text)?)),
+    }
+}
+
 #[tactic(auto, unfolding(crate::specs::Data::status_data))]
 fn ring_json(alloc: Global, ring: &RingStatus<'_>) -> Result<Value, AllocError>
     ensures { IfOk result (λ v. view v ≡ status_data ring.now) }
 {
     let nodes = nodes_json(alloc, ring.nodes)?;
     let doorless = numbers_json(alloc, ring.doorless)?;
+    let identity = identity_json(alloc, ring.ring)?;
     json!(in alloc; {
         "dir": ring.dir,
         "doorless": doorless,
         "idle": ring.idle,
         "nodes": nodes,
+        "ring": identity,
         "started": ring.started,
         "version": ring.version,
         "words": ring.words

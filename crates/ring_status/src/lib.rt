@@ -29,7 +29,7 @@ pub use bound::Bound;
 pub use counts::{Counts, Landing};
 pub use health::{are_well, can_elect, health_text, ready_text};
 pub use holder::Holder;
-pub use holding::Holding;
+pub use holding::{Holding, hangs};
 pub use json::{condition_text, latest_json, leaders_json, name_of, status_json};
 pub use metric::Metric;
 pub use metrics::metrics_text;

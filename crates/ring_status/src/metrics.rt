@@ -1,8 +1,8 @@
 // The text for Prometheus.
-ghost use Rattle.std.specs.Prelude.{◌≡◌, ◌++◌, IfOk, OnOk, string_bytes};
+ghost use Rattle.std.specs.Prelude.{◌≡◌, ◌++◌, IfOk, OnOk, option_map, string_bytes};
 ghost use Rattle.std.specs.List.{flat_map};
 ghost use Rattle.ring_status.specs.Metrics.{begun_family, gauge_of, max_family, open_family, process_families, process_family, program_families, resident_family, value_line};
-ghost use Rattle.ring_status.specs.Metrics.{bucket, commit_count, commit_samples, commit_sum, commit_totals, commits_family, commits_head, family_of, head_of, metrics_body, refusal_sample, refusal_samples, refusals_family, refusals_head, sample, layout_label, started_family, version_family, version_start, within_sample};
+ghost use Rattle.ring_status.specs.Metrics.{bucket, commit_count, commit_samples, commit_sum, commit_totals, commits_family, commits_head, family_of, head_of, identity_family, identity_sample, metrics_body, refusal_sample, refusal_samples, refusals_family, refusals_head, sample, layout_label, started_family, version_family, version_start, within_sample};
 
 use crate::metric::Metric;
 use crate::process::Process;
@@ -215,15 +215,37 @@ fn print_process(out: &mut String, started: u64, process: &Process) -> Result<()
     print_max_fds(out, process)
 }
 
-#[tactic(auto, using(crate::proofs::Appends::three))]
+#[tactic(auto, unfolding(crate::specs::Metrics::identity_sample))]
+fn print_identity_sample(out: &mut String, identity: &str) -> Result<(), AllocError>
+    ensures { OnOk result (string_bytes out.new ≡ string_bytes out.old ++ identity_sample identity.now) }
+{
+    let name = "cinoweta_ring_info";
+    let help = "1, with the identity of the ring.";
+    writeln!(
+        out,
+        "# HELP {name} {help}\n# TYPE {name} gauge\n{name}{{ring=\"{identity}\"}} 1"
+    )
+}
+
+fn print_identity(out: &mut String, identity: Option<&str>) -> Result<(), AllocError>
+    ensures { OnOk result (string_bytes out.new ≡ string_bytes out.old ++ identity_family (option_map (λ text. text.now) identity.entry)) }
+{
+    match identity {
+        None => Ok(()),
+        Some(identity) => print_identity_sample(out, identity),
+    }
+}
+
+#[tactic(auto, using(crate::proofs::Appends::four))]
 fn print_program(
     out: &mut String,
     ring: &RingStatus<'_>,
     process: &Process,
 ) -> Result<(), AllocError>
-    ensures { OnOk result (string_bytes out.new ≡ string_bytes out.old ++ program_families (ring.now.version).now ring.now.started process.now) }
+    ensures { OnOk result (string_bytes out.new ≡ string_bytes out.old ++ program_families (ring.now.version).now (option_map (λ text. text.now) ring.now.ring) ring.now.started process.now) }
 {
     print_version(out, ring.version, LAYOUT)?;
+    print_identity(out, ring.ring)?;
     print_started(out, ring.started)?;
     print_process(out, ring.started, process)
 }
@@ -336,7 +358,7 @@ fn print_commits_family(out: &mut String, nodes: &[NodeStatus]) -> Result<(), Al
 
 #[tactic(auto, using(crate::proofs::Appends::four), unfolding(crate::specs::Metrics::metrics_body))]
 fn print_all(out: &mut String, ring: &RingStatus<'_>, process: &Process) -> Result<(), AllocError>
-    ensures { OnOk result (string_bytes out.new ≡ string_bytes out.old ++ metrics_body (ring.now.version).now ring.now.started process.now ring.now.nodes.now) }
+    ensures { OnOk result (string_bytes out.new ≡ string_bytes out.old ++ metrics_body (ring.now.version).now (option_map (λ text. text.now) ring.now.ring) ring.now.started process.now ring.now.nodes.now) }
 {
     print_program(out, ring, process)?;
     print_families(out, Metric::all(), ring.nodes)?;
@@ -350,7 +372,7 @@ pub fn metrics_text(
     ring: &RingStatus<'_>,
     process: &Process,
 ) -> Result<String, AllocError>
-    ensures { IfOk result (λ text. string_bytes text ≡ metrics_body (ring.now.version).now ring.now.started process.now ring.now.nodes.now) }
+    ensures { IfOk result (λ text. string_bytes text ≡ metrics_body (ring.now.version).now (option_map (λ text. text.now) ring.now.ring) ring.now.started process.now ring.now.nodes.now) }
 {
     let mut out = String::new(alloc);
     print_all(&mut out, ring, process)?;

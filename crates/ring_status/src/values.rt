@@ -87,6 +87,8 @@ pub struct NodeStatus {
 pub struct RingStatus<'a> {
     /// The version of the program.
     pub version: &'a str,
+    /// The ring's identity, where it has one.
+    pub ring: Option<&'a str>,
     /// The folder of its nodes.
     pub dir: &'a str,
     /// When it was started, in seconds of Unix time.

@@ -4,16 +4,28 @@ use crate::status_port::StatusPort;
 use crate::visitor::{Asked, Caller};
 use crate::watchers::Watcher;
 use client_stream::{Deadline, part, send_all};
+use httpdate::HttpDate;
 use ring_status::{Content, Method, Request, Status, Target, answer_text};
 use std::alloc::{AllocError, Global};
 use std::sync::Wait;
 use std::time::Clock;
 
+/// Now, as an answer tells it, where there is a clock.
+fn date<R: Clock>(rt: &R) -> Option<HttpDate> {
+    let now = rt.since_1970().ok()?;
+    HttpDate::from_unix_secs(now.as_secs()).ok()
+}
+
 /// The answer of a request that is refused: its status, in words too.
-fn refusal(alloc: Global, method: Method, status: Status) -> Result<String, AllocError> {
+fn refusal<R: Clock>(
+    rt: &R,
+    alloc: Global,
+    method: Method,
+    status: Status,
+) -> Result<String, AllocError> {
     let line = status.line();
     let body = format!(in alloc; "{line}\n")?;
-    answer_text(alloc, method, status, Content::Text, &body)
+    answer_text(alloc, method, status, Content::Text, date(rt), &body)
 }
 
 /// The answer to what was asked.
@@ -26,14 +38,19 @@ fn answer<R: Wait + Clock>(
 ) -> Result<String, AllocError> {
     let Request { method, target } = match asked {
         Ok(request) => request,
-        Err((method, status)) => return refusal(alloc, method, status),
+        Err((method, status)) => return refusal(rt, alloc, method, status),
     };
     let body = body_of(rt, alloc, &port.facts, &port.reception, target, deadline);
-    told(alloc, method, body)
+    told(rt, alloc, method, body)
 }
 
 /// The answer of this body.
-fn told(alloc: Global, method: Method, body: Result<Body, Status>) -> Result<String, AllocError> {
+fn told<R: Clock>(
+    rt: &R,
+    alloc: Global,
+    method: Method,
+    body: Result<Body, Status>,
+) -> Result<String, AllocError> {
     match body {
         Ok(
             Body {
@@ -41,8 +58,8 @@ fn told(alloc: Global, method: Method, body: Result<Body, Status>) -> Result<Str
                 content,
                 text,
             },
-        ) => answer_text(alloc, method, status, content, &text),
-        Err(status) => refusal(alloc, method, status),
+        ) => answer_text(alloc, method, status, content, date(rt), &text),
+        Err(status) => refusal(rt, alloc, method, status),
     }
 }
 
@@ -66,7 +83,7 @@ pub(crate) fn answer_watcher<R: Wait + Clock>(
     if is_nothing(&body) && !watcher.is_over(rt) {
         return Some(watcher);
     }
-    if let Ok(text) = told(alloc, request.method, body) {
+    if let Ok(text) = told(rt, alloc, request.method, body) {
         watcher.send(rt, &text);
     }
     None
@@ -103,7 +120,7 @@ fn wait<R: Wait + Clock>(rt: &R, alloc: Global, port: &StatusPort, watcher: Watc
 fn seat<R: Wait + Clock>(rt: &R, alloc: Global, port: &StatusPort, watcher: Watcher) {
     let request = watcher.request();
     if let Some(watcher) = port.watchers.enter(rt, watcher) {
-        if let Ok(text) = refusal(alloc, request.method, Status::Unavailable) {
+        if let Ok(text) = refusal(rt, alloc, request.method, Status::Unavailable) {
             watcher.send(rt, &text);
         }
     }

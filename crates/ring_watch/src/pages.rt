@@ -112,6 +112,10 @@ pub(crate) fn ring<'a>(
 ) -> RingStatus<'a> {
     RingStatus {
         version: facts.version,
+        ring: match &facts.ring {
+            Some(text) => Some(text.as_str()),
+            None => None,
+        },
         dir: facts.dir.as_str(),
         started: facts.started,
         words: facts.words.as_str(),

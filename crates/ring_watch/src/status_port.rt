@@ -25,6 +25,8 @@ const BACKLOG: i32 = 4_096;
 pub struct Facts {
     /// The version of the program.
     pub version: &'static str,
+    /// The ring's identity, where it has one.
+    pub ring: Option<String>,
     /// The folder of its nodes.
     pub dir: String,
     /// When it was started, in seconds of Unix time.
@@ -74,6 +76,11 @@ impl StatusPort {
             facts,
             reception,
         }
+    }
+
+    /// The ring has this identity, or none.
+    pub fn name_ring(&mut self, ring: Option<String>) {
+        self.facts.ring = ring;
     }
 
     /// Where the ring's clerks are asked.

@@ -1,13 +1,14 @@
 //! `ringd` serves a ring of journalled nodes.
 #![tactic(auto)]
 
+use log_lines::is_stream;
 use ring_server::start;
 use std::alloc::{AllocError, Global};
 use std::fs::File;
 use std::io::ErrorKind;
 use std::os::fd::AsRawFd;
 use std::process::ExitCode;
-use std::{env, io};
+use std::{env, fs, io};
 
 // Why the words of the program are not there.
 #[derive(Clone, Copy)]
@@ -47,6 +48,17 @@ fn texts_of(alloc: Global, words: &[String]) -> Result<Vec<&str>, AllocError> {
     words.iter().map(|word| word.as_str()).collect(alloc)
 }
 
+// Whether standard error is systemd's journal, by JOURNAL_STREAM and what the system says of the stream.
+fn is_journal(rt: &HostRuntime) -> bool {
+    let Ok(told) = env::var(rt, "JOURNAL_STREAM") else {
+        return false;
+    };
+    let Ok(link) = fs::read_link(rt, "/proc/self/fd/2") else {
+        return false;
+    };
+    is_stream(rt.alloc(), told.as_str(), link.as_str()).unwrap_or(false)
+}
+
 fn main(rt: HostRuntime) -> ExitCode {
     let _held = hold_streams(&rt);
     let alloc = rt.alloc();
@@ -68,5 +80,15 @@ fn main(rt: HostRuntime) -> ExitCode {
     let mut input = rt.reader();
     let mut out = io::writer(&rt);
     let mut err = rt.stderr();
-    ExitCode::from(start(&rt, alloc, texts.as_slice(), &mut input, &mut out, &mut err))
+    let is_journal = is_journal(&rt);
+    let status = start(
+        &rt,
+        alloc,
+        texts.as_slice(),
+        is_journal,
+        &mut input,
+        &mut out,
+        &mut err,
+    );
+    ExitCode::from(status)
 }

@@ -189,6 +189,7 @@ fn port_of<R: AllocGlobal + Net<Listener = TcpListener, Stream = TcpStream>>(
     let listener = TcpListener::bind(rt, (Ipv4Addr::LOCALHOST, served.status?)).ok()?;
     let facts = Facts {
         version: "0",
+        ring: None,
         dir: String::new(rt.alloc()),
         started: 0,
         words: String::new(rt.alloc()),
@@ -239,6 +240,7 @@ pub fn serve_three<
         fail_stop: served.fail_stop,
         dir: String::from_str(alloc, "ring").expect(rt, "memory"),
         log: LogForm::Plain,
+        verbose: false,
     };
     let status = serve_ring(rt, alloc, ring, &mut out, &mut err);
     let Seen { text, len: _ } = err;

@@ -103,7 +103,7 @@ const FILLED: Scenario = Scenario {
     visits: [&[Visit::IsFilledByOthers(7396)], &[], &[]],
     status: 0,
     out: b"",
-    err: Some(b"ringd: node 1 full\n"),
+    err: Some(b"ringd: node 1 full\nringd: node 1 well again\n"),
 };
 
 #[test]

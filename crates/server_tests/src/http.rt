@@ -20,7 +20,7 @@ pub enum Question {
     NotWell(&'static [u8]),
 }
 
-/// What is answered to these bytes, up to its end.
+/// What is answered to these bytes, up to its end, without its date.
 pub fn answer_to<R: Net<Stream = TcpStream> + Clock + AllocGlobal>(
     rt: &R,
     port: u16,
@@ -32,6 +32,26 @@ pub fn answer_to<R: Net<Stream = TcpStream> + Clock + AllocGlobal>(
     let mut reader = &stream;
     let mut bytes = Vec::new(rt.alloc());
     reader.read_to_end(&mut bytes).ok()?;
+    without_date(rt, &bytes)
+}
+
+const DATE: &[u8] = b"\r\nDate: ";
+
+/// How long a date is in a head, as `Sun, 06 Nov 1994 08:49:37 GMT`, with what stands before it.
+const DATE_BYTES: usize = 37;
+
+/// The answer without the field that says when it was given. `None` where it has none in its head, or one of another form.
+fn without_date<R: AllocGlobal>(rt: &R, answer: &[u8]) -> Option<Vec<u8>> {
+    let at = (0..answer.len()).find(|at| answer[*at..].starts_with(DATE))?;
+    let end = at.saturating_add(DATE_BYTES);
+    let date = answer.get(at..end)?;
+    let rest = answer.get(end..)?;
+    if !date.ends_with(b" GMT") || date.get(11) != Some(&b',') || !rest.starts_with(b"\r\n") {
+        return None;
+    }
+    let mut bytes = Vec::new(rt.alloc());
+    bytes.extend_from_slice(&answer[..at]).ok()?;
+    bytes.extend_from_slice(rest).ok()?;
     Some(bytes)
 }
 

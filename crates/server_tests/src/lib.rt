@@ -46,6 +46,8 @@ mod requests;
 #[cfg(test)]
 mod sessions_ends;
 #[cfg(test)]
+mod silent;
+#[cfg(test)]
 mod starts;
 #[cfg(test)]
 mod status;
@@ -55,5 +57,7 @@ mod steps;
 mod tallies;
 #[cfg(test)]
 mod unsynced;
+#[cfg(test)]
+mod verbose;
 #[cfg(test)]
 mod visits;

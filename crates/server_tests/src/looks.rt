@@ -27,6 +27,24 @@ fn said_of<R: AllocGlobal>(rt: &R, one: (u64, u64), two: (u64, u64)) -> Option<S
     }
 }
 
+/// Whether the line behind the last one is as it is to be: where a node begins behind a checkpoint it says what that means, and
+/// else there is none.
+fn is_explained<R: AllocGlobal>(rt: &R, said: &str, line: Option<&str>) -> bool {
+    match (said.strip_prefix("dropped "), line) {
+        (None, None) => true,
+        (Some(node), Some(line)) => {
+            let text = format!(in rt.alloc();
+                "no run can be told, as node {node} begins behind a checkpoint; what the nodes know of each other fits"
+            );
+            match text {
+                Ok(text) => text.as_str() == line,
+                Err(_) => false,
+            }
+        }
+        _ => false,
+    }
+}
+
 /// What stands before: the settings of the ring.
 const SETTINGS: &[u8] = b"nodes 2\ndir looked\nport 7331\ncapacity 65536\n";
 
@@ -37,7 +55,8 @@ pub fn last_line<R: AllocGlobal>(rt: &R, out: &[u8]) -> Option<String> {
     let one = counts_in(rt, lines.next()?, 1)?;
     let two = counts_in(rt, lines.next()?, 2)?;
     let said = said_of(rt, one, two)?;
-    let is_told = lines.next() == Some(said.as_str()) && lines.next().is_none();
+    let is_told = lines.next() == Some(said.as_str());
+    let is_told = is_told && is_explained(rt, &said, lines.next()) && lines.next().is_none();
     if is_told && one.1 <= one.0 && two.1 <= two.0 {
         Some(said)
     } else {

@@ -58,7 +58,15 @@ where
 {
     let mut out = Vec::new(rt.alloc());
     let mut err = Vec::new(rt.alloc());
-    let status = start(rt, rt.alloc(), words, &mut &*settings, &mut out, &mut err);
+    let status = start(
+        rt,
+        rt.alloc(),
+        words,
+        false,
+        &mut &*settings,
+        &mut out,
+        &mut err,
+    );
     Ended { status, out, err }
 }
 

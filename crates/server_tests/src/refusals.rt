@@ -4,6 +4,7 @@ use crate::steps::Change::{Anew, Clears};
 use crate::steps::Step::{Changes, Ends, EndsBesidePort};
 use crate::steps::{SERVE, Step, plays};
 use ring_server::start;
+use ring_service::Host;
 use std::alloc::AllocGlobal;
 use std::fs;
 use std::fs::File;
@@ -141,8 +142,42 @@ where
     assert!(rt; ended.err.is_empty() == (status == 0));
 }
 
+/// Texts, and how a host is told by them: as an address, by that name, or not at all.
+static HOSTS: [(&str, &str); 16] = [
+    ("127.0.0.1", "127.0.0.1"),
+    ("0.0.0.0", "0.0.0.0"),
+    ("::1", "::1"),
+    ("::", "::"),
+    ("[::1]", "::1"),
+    ("[fe80::2]", "fe80::2"),
+    ("localhost", "name localhost"),
+    ("ring-1.example.org", "name ring-1.example.org"),
+    ("127.1", "none"),
+    ("127.0.0.256", "none"),
+    ("0x7f", "none"),
+    ("[127.0.0.1]", "none"),
+    ("[::1", "none"),
+    ("a host", "none"),
+    ("host.", "none"),
+    ("", "none"),
+];
+
+#[test]
+fn hosts_to_listen_at(rt: HostRuntime) -> Result<(), Fail> {
+    for row in &HOSTS {
+        let (text, wanted) = *row;
+        let told = match Host::read(text) {
+            Some(Host::Address(address)) => format!(in rt.alloc(); "{address}")?,
+            Some(Host::Name(name)) => format!(in rt.alloc(); "name {name}")?,
+            None => format!(in rt.alloc(); "none")?,
+        };
+        assert!(rt; told.as_str() == wanted, "{text}");
+    }
+    Ok(())
+}
+
 /// Words, and the status that they end with.
-static WORDS: [(&[&str], u8); 9] = [
+static WORDS: [(&[&str], u8); 11] = [
     (&["ringd", "--help"], 0),
     (&["ringd", "--always", "--status", "1", "--doors", "32"], 2),
     (&["ringd", "--serve", "0"], 2),
@@ -151,8 +186,12 @@ static WORDS: [(&[&str], u8); 9] = [
     (&["ringd", "--always", "--serve", "1"], 2),
     (&["ringd", "--make", "--always"], 2),
     (&["ringd", "red"], 2),
-    (&["ringd", "--listen", "localhost"], 2),
+    (&["ringd", "--listen", "127.0.0.256"], 2),
+    (&["ringd", "--listen", "::1]"], 2),
+    (&["ringd", "--verbose", "1"], 2),
 ];
+
+const VERSION: &[u8] = b"ringd 0.1.0 (layout 3)\n";
 
 #[test]
 fn words(rt: HostRuntime) {
@@ -160,7 +199,7 @@ fn words(rt: HostRuntime) {
         let (words, status) = *row;
         told(&rt, words, status);
     }
-    shows(&rt, &["ringd", "--version"], b"", b"ringd 0.1.0\n");
+    shows(&rt, &["ringd", "--version"], b"", VERSION);
 }
 
 const NO_FOLDER: &[u8] = b"nodes = 3\ndir = \"no-such-folder\"\nport = 7141\n";
@@ -194,7 +233,15 @@ fn an_output_that_takes_nothing(rt: HostRuntime) -> Result<(), Fail> {
     let settings = b"nodes = 3\ndir = \"a\"\nport = 1\n".as_slice();
     for said in &[NONE, &["ringd", "--version"]] {
         let mut err = Vec::new(rt.alloc());
-        let status = start(&rt, rt.alloc(), said, &mut &*settings, &mut out, &mut err);
+        let status = start(
+            &rt,
+            rt.alloc(),
+            said,
+            false,
+            &mut &*settings,
+            &mut out,
+            &mut err,
+        );
         assert!(rt; status == 1);
         assert!(rt; err.as_slice() == b"ringd: output cannot be written\n".as_slice());
     }

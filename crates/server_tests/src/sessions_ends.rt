@@ -217,6 +217,7 @@ fn a_start_that_is_not_told(rt: HostRuntime) -> Result<(), Fail> {
         &rt,
         rt.alloc(),
         &words,
+        false,
         &mut &*settings,
         &mut Muted,
         &mut err,

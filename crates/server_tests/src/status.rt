@@ -2,7 +2,7 @@
 use crate::clients::connect;
 use crate::devices::Served;
 use crate::http::Question::{AtLast as Told, NotWell, Status, Target, Whole};
-use crate::http::{has_status, is_told_at_last, is_whole};
+use crate::http::is_told_at_last;
 use crate::programs::{Ring, Scenario, runs};
 use crate::steps::Change::{Anew, Clears};
 use crate::steps::Step::{Changes, Ends, EndsBesidePort};
@@ -10,12 +10,12 @@ use crate::steps::{Step, plays, runs_anew};
 use crate::visits::Say::{AtLast, Line, Meanwhile};
 use crate::visits::{Say, Visit};
 use std::alloc::AllocGlobal;
-use std::io::{Read, Write};
+use std::io::Write;
 use std::net::{Net, TcpStream};
 use std::test::*;
-use std::time::{Clock, Duration, Instant};
+use std::time::Clock;
 
-const WELL: &[u8] =
+pub const WELL: &[u8] =
     b"HTTP/1.1 200 OK\r\nContent-Type: text/plain; charset=utf-8\r\nContent-Length: 5\r\nCache-Control: no-store\r\nConnection: close\r\n\r\nwell\n";
 
 const HEAD_OF_WELL: &[u8] =
@@ -69,7 +69,7 @@ const OPEN: &[Say] = &[
         7230,
         Target(
             "/status",
-            b"\"sessions\":{\"begun\":0,\"busy\":0,\"doors\":2,\"refusals\":[{\"count\":0,\"number\":3},{\"count\":0,\"number\":4},{\"count\":0,\"number\":5},{\"count\":0,\"number\":6},{\"count\":0,\"number\":7},{\"count\":0,\"number\":8},{\"count\":0,\"number\":9}]},\"stands\":{\"floors\":0,\"left\":1024,\"taken\":0},\"state\":\"well\"}],\"started\":",
+            b"\"sessions\":{\"begun\":0,\"busy\":0,\"doors\":2,\"refusals\":[{\"count\":0,\"number\":3},{\"count\":0,\"number\":4},{\"count\":0,\"number\":5},{\"count\":0,\"number\":6},{\"count\":0,\"number\":7},{\"count\":0,\"number\":8},{\"count\":0,\"number\":9}]},\"stands\":{\"floors\":0,\"left\":1024,\"taken\":0},\"state\":\"well\"}],\"ring\":\"",
         ),
     ),
     Meanwhile(
@@ -227,133 +227,6 @@ const TOLD: Scenario = Scenario {
 #[test]
 fn a_ring_is_told_of(rt: HostRuntime) {
     runs_anew(&rt, "told", &TOLD);
-}
-
-/// A head of so many bytes.
-fn head_of<R: AllocGlobal>(rt: &R, len: usize) -> Option<Vec<u8>> {
-    let mut head = Vec::new(rt.alloc());
-    head.extend_from_slice(b"GET /health HTTP/1.1\r\nA: ").ok()?;
-    for _ in head.len()..len.saturating_sub(4) {
-        head.push(b'a').ok()?;
-    }
-    head.extend_from_slice(b"\r\n\r\n").ok()?;
-    Some(head)
-}
-
-/// Whether a head of 8,192 bytes is answered, and a longer one is too large.
-pub fn measures_heads<R: Net<Stream = TcpStream> + Clock + AllocGlobal>(rt: &R, port: u16) -> bool {
-    let (Some(head), Some(long)) = (head_of(rt, 8_192), head_of(rt, 8_197)) else {
-        return false;
-    };
-    is_whole(rt, port, &head, WELL)
-        && has_status(
-            rt,
-            port,
-            &long,
-            b"431 ",
-            b"\r\n\r\n431 Request Header Fields Too Large\n",
-        )
-}
-
-/// Whether a client that is silent is left without an answer.
-fn is_left(stream: &TcpStream) -> bool {
-    let mut reader = stream;
-    let mut byte = [0u8; 1];
-    match reader.read(&mut byte) {
-        Ok(count) => count == 0,
-        Err(_) => true,
-    }
-}
-
-const HALF_A_HEAD: &[u8] = b"GET /health HTTP/1.1\r\n";
-
-/// How many clients ask nothing, which is more than the port waits for.
-const SILENT: u32 = 100;
-
-/// Clients that ask nothing, of which each second one sends half a head.
-fn silent<R: Net<Stream = TcpStream> + Clock + AllocGlobal>(
-    rt: &R,
-    port: u16,
-) -> Option<Vec<TcpStream>> {
-    let mut silent = Vec::new(rt.alloc());
-    for number in 0..SILENT {
-        let stream = connect(rt, port)?;
-        if number % 2 == 0 {
-            let mut writer = &stream;
-            writer.write_all(HALF_A_HEAD).ok()?;
-        }
-        silent.push(stream).ok()?;
-    }
-    Some(silent)
-}
-
-/// How many milliseconds have passed since then.
-fn passed<R: Clock>(rt: &R, begun: Instant) -> u128 {
-    match begun.elapsed(rt) {
-        Ok(time) => time.as_millis(),
-        Err(_) => u128::MAX,
-    }
-}
-
-/// Whether a client is served within ten seconds beside more that are silent than are waited for, and these are left.
-pub fn is_served_beside<R: Net<Stream = TcpStream> + Clock + AllocGlobal>(
-    rt: &R,
-    port: u16,
-) -> bool {
-    let (Some(silent), Ok(begun)) = (silent(rt, port), Instant::now(rt)) else {
-        return false;
-    };
-    let served = is_whole(rt, port, b"GET /health HTTP/1.1\r\n\r\n", WELL);
-    let is_soon = passed(rt, begun) < 10_000;
-    let mut left = true;
-    for stream in &silent {
-        left = is_left(stream) && left;
-    }
-    served && is_soon && left
-}
-
-/// Whether a client that sends these bytes, and then nothing, is left after so many seconds and within ten more.
-pub fn is_left_after<R: Net<Stream = TcpStream> + Clock>(
-    rt: &R,
-    port: u16,
-    bytes: &[u8],
-    seconds: u32,
-) -> bool {
-    let (Some(stream), Ok(begun)) = (connect(rt, port), Instant::now(rt)) else {
-        return false;
-    };
-    let mut writer = &stream;
-    let sent = writer.write_all(bytes).is_ok();
-    let left = is_left(&stream);
-    let passed = passed(rt, begun);
-    let due = 1_000 * u128::from(seconds);
-    sent && left && due - passed.min(due) < 100 && passed < due + 10_000
-}
-
-const UNASKED: Scenario = Scenario {
-    ring: Ring::Program(
-        &["ringd", "--serve", "1", "--status", "7240"],
-        b"nodes = 2\ndir = \"unasked\"\nport = 7241\n",
-    ),
-    visits: [
-        &[
-            Visit::IsBesideSilent(7240),
-            Visit::IsLeft(7240, b"", 1),
-            Visit::IsLeft(7240, HALF_A_HEAD, 2),
-            Visit::Asks(7241, b"who blue 4\n", b"none"),
-            Visit::Asks(7242, b"who blue 4\n", b"none"),
-        ],
-        &[],
-        &[],
-    ],
-    status: 0,
-    out: b"",
-    err: Some(b""),
-};
-
-#[test]
-fn clients_that_do_not_ask(rt: HostRuntime) {
-    runs_anew(&rt, "unasked", &UNASKED);
 }
 
 /// Stands for 250 terms of `red`, without a look at the answers, until this is told at that port of what is not well.

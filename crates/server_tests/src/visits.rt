@@ -11,7 +11,8 @@ use crate::numbers::{fit_at_last, leave_their_places};
 use crate::sessions_ends::{
     is_answered_whole, is_left_within_a_line, is_no_request, is_passed_over,
 };
-use crate::status::{is_left_after, is_served_beside, measures_heads, stands_until};
+use crate::silent::{is_left_after, is_served_beside, measures_heads};
+use crate::status::stands_until;
 use std::alloc::AllocGlobal;
 use std::net::{Net, TcpStream};
 use std::sync::atomic::AtomicU64;

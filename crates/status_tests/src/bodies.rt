@@ -106,6 +106,7 @@ fn status(rt: HostRuntime) -> Result<(), Fail> {
     nodes.push(node(&rt, rt.alloc(), 2, Condition::Limit)?)?;
     let ring = RingStatus {
         version: "0.1.0",
+        ring: Some("00112233445566778899aabbccddeeff"),
         dir: "a\"b",
         started: 1_700_000_000,
         words: "--always --idle 5",
@@ -118,8 +119,32 @@ fn status(rt: HostRuntime) -> Result<(), Fail> {
             == "{\"dir\":\"a\\\"b\",\"doorless\":[1],\"idle\":5,\"nodes\":[{\"elections\":18,\"journal\":{\"batches\":5,\"capacity\":65536,\"checkpoints\":13,\"durable\":29,\
          \"epoch\":14,\"inputs\":30,\"layout\":3,\"refused\":16,\"renewable\":true,\"snapshot\":345,\"syncs\":6,\"used\":1234,\"writing\":12},\"messages\":{\"credit\":10,\"refused\":17,\"sent\":12,\"taken\":11,\
          \"waiting\":9},\"node\":2,\"port\":7102,\"sessions\":{\"begun\":8,\"busy\":3,\"doors\":4,\"refusals\":[{\"count\":2,\"number\":4},\
-         {\"count\":1,\"number\":25}]},\"stands\":{\"floors\":15,\"left\":1017,\"taken\":7},\"state\":\"limit\"}],\
+         {\"count\":1,\"number\":25}]},\"stands\":{\"floors\":15,\"left\":1017,\"taken\":7},\"state\":\"limit\"}],\"ring\":\"00112233445566778899aabbccddeeff\",\
          \"started\":1700000000,\"version\":\"0.1.0\",\"words\":\"--always --idle 5\"}"
+    );
+    Ok(())
+}
+
+/// A ring of this identity, of which nothing else is told.
+fn ring_of<'a>(ring: Option<&'a str>) -> RingStatus<'a> {
+    RingStatus {
+        version: "0.1.0",
+        ring,
+        dir: "a",
+        started: 0,
+        words: "",
+        idle: 0,
+        nodes: &[],
+        doorless: &[],
+    }
+}
+
+#[test]
+fn no_identity(rt: HostRuntime) -> Result<(), Fail> {
+    assert!(rt;
+        status_json(rt.alloc(), &ring_of(None))?.as_str()
+            == "{\"dir\":\"a\",\"doorless\":[],\"idle\":0,\"nodes\":[],\"ring\":null,\"started\":0,\
+         \"version\":\"0.1.0\",\"words\":\"\"}"
     );
     Ok(())
 }
@@ -156,6 +181,7 @@ fn metrics(rt: HostRuntime) -> Result<(), Fail> {
     nodes.push(node(&rt, rt.alloc(), 2, Condition::Full)?)?;
     let ring = RingStatus {
         version: "0.1.0",
+        ring: Some("00112233445566778899aabbccddeeff"),
         dir: "state",
         started: 1_700_000_000,
         words: "--always --idle 5",
@@ -169,14 +195,15 @@ fn metrics(rt: HostRuntime) -> Result<(), Fail> {
         max_fds: None,
     };
     let text = metrics_text(rt.alloc(), &ring, &process)?;
-    // 36 families of two lines each, a line for each node in 29 of them, two of them with five lines of commits and two
-    // refusals, version and start, and three of the process
-    assert!(rt; text.as_str().lines().count() == 36 * 2 + 29 * 2 + 2 * 5 + 2 * 2 + 2 + 3);
+    // 37 families of two lines each, a line for each node in 29 of them, two of them with five lines of commits and two
+    // refusals, version, ring and start, and three of the process
+    assert!(rt; text.as_str().lines().count() == 37 * 2 + 29 * 2 + 2 * 5 + 2 * 2 + 3 + 3);
     assert!(rt; !text.as_str().contains("process_max_fds"));
     for part in [
         "# HELP cinoweta_build_info 1, with the version of the program, and the layout that it \
          writes.\n# TYPE cinoweta_build_info \
-         gauge\ncinoweta_build_info{version=\"0.1.0\",layout=\"3\"} 1\n",
+         gauge\ncinoweta_build_info{version=\"0.1.0\",layout=\"3\"} 1\n# HELP cinoweta_ring_info 1, with the identity of the \
+         ring.\n# TYPE cinoweta_ring_info gauge\ncinoweta_ring_info{ring=\"00112233445566778899aabbccddeeff\"} 1\n",
         "# HELP cinoweta_messages_refused_total Messages that the node refused for want of room since the start.\n# TYPE \
          cinoweta_messages_refused_total counter\ncinoweta_messages_refused_total{node=\"1\"} 17\n",
         "# HELP cinoweta_elections_total Leaders that became known to the node since the start.\n# TYPE \

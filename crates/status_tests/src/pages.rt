@@ -41,6 +41,7 @@ fn a_ring(rt: HostRuntime) -> Result<(), Fail> {
     )?;
     let ring = RingStatus {
         version: "0.1.0",
+        ring: Some("00112233445566778899aabbccddeeff"),
         dir: "a<b",
         started: 1_700_000_000,
         words: "--always",

@@ -24,4 +24,5 @@ returns c =
     let thirteen = adds _ (app_of c.in_ok-command-12.command) _ (rule_of c.leap_arg.result) (number_rule (codes "leap") 0 999999999) c.in_ok-command-13.ensures twelve c.leap_arg.ensures.rule in
     let fourteen = adds _ (app_of c.in_ok-command-13.command) _ (rule_of c.ring_arg.result) ring_rule c.in_ok-command-14.ensures thirteen c.ring_arg.ensures.rule in
     let fifteen = adds _ (app_of c.in_ok-command-14.command) _ (rule_of c.log_arg.result) log_rule c.in_ok-command-15.ensures fourteen c.log_arg.ensures.rule in
-    adds_last c.in_ok-command-15.command _ c.leaders_arg.result (flag_rule (codes "leaders")) c.with_arg-16.result c.with_arg-16.ensures fifteen c.leaders_arg.ensures.rule refl
+    let sixteen = adds _ (app_of c.in_ok-command-15.command) _ (rule_of c.leaders_arg.result) (flag_rule (codes "leaders")) c.in_ok-command-16.ensures fifteen c.leaders_arg.ensures.rule in
+    adds_last c.in_ok-command-16.command _ c.verbose_arg.result (flag_rule (codes "verbose")) c.with_arg-17.result c.with_arg-17.ensures sixteen c.verbose_arg.ensures.rule refl

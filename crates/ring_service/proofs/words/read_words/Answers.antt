@@ -22,5 +22,6 @@ returns-in-Ok-clause-told c = record {
   leaps = rw c.in-Ok.is at c.words_of.ensures.far;
   is_of = rw c.in-Ok.is at c.words_of.ensures.ring;
   tells_as = rw c.in-Ok.is at c.words_of.ensures.log;
+  tells_more = rw c.in-Ok.is at c.words_of.ensures.verbose;
   leads = rw c.in-Ok.is at c.words_of.ensures.leaders;
 }

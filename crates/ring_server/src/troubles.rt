@@ -1,0 +1,161 @@
+//! What is told of the troubles of a ring's nodes while they serve.
+use crate::log::Log;
+use crate::shared::Shared;
+use crate::watch::{Wants, place};
+use log_lines::{Level, Spell, Turn};
+use ring_records::NodeNo;
+use ring_status::hangs;
+use std::io::Write;
+use std::sync::Wait;
+use std::time::{Clock, Instant};
+
+/// What is told of the troubles of a node, and of how many leaders.
+#[derive(Clone, Copy)]
+struct Told {
+    hangs: Spell,
+    room: Spell,
+    memory: Spell,
+    elections: u64,
+    has_failed: bool,
+}
+
+impl Told {
+    fn new() -> Told {
+        Told {
+            hangs: Spell::new(),
+            room: Spell::new(),
+            memory: Spell::new(),
+            elections: 0,
+            has_failed: false,
+        }
+    }
+
+    /// Tells whether its disk hangs, and that it goes on.
+    fn tell_hang<C: Clock, E: Write>(
+        &mut self,
+        log: &mut Log<'_, C, E>,
+        node: NodeNo,
+        hangs: bool,
+        second: u64,
+    ) {
+        let _ = match self.hangs.look(hangs, second) {
+            Some(Turn::Begins) => { writeln!(log.line(Level::Warning), "ringd: node {node} hangs") }
+            Some(Turn::Ends) => { writeln!(log.line(Level::Warning), "ringd: node {node} goes on") }
+            None => Ok(()),
+        };
+    }
+
+    /// Tells what it wants, and that it wants that no more.
+    fn tell_wants<C: Clock, E: Write>(
+        &mut self,
+        log: &mut Log<'_, C, E>,
+        node: NodeNo,
+        wants: Wants,
+        second: u64,
+    ) {
+        let room = self.room.look(wants.room, second);
+        let memory = self.memory.look(wants.memory, second);
+        if room == Some(Turn::Begins) {
+            let _ = writeln!(log.line(Level::Warning), "ringd: node {node} full");
+        }
+        if memory == Some(Turn::Begins) {
+            let _ = writeln!(log.line(Level::Warning), "ringd: node {node} memory");
+        }
+        let is_over = room == Some(Turn::Ends) || memory == Some(Turn::Ends);
+        if is_over && !self.room.is_told && !self.memory.is_told {
+            let _ = writeln!(log.line(Level::Warning), "ringd: node {node} well again");
+        }
+    }
+
+    /// Tells of how many leaders it heard since it was told last.
+    fn tell_elections<C: Clock, E: Write>(
+        &mut self,
+        log: &mut Log<'_, C, E>,
+        node: NodeNo,
+        elections: u64,
+    ) {
+        let more = elections.saturating_sub(self.elections);
+        self.elections = elections;
+        if more > 0 {
+            let _ = writeln!(
+                log.line(Level::Debug),
+                "ringd: node {node}: elections {more}"
+            );
+        }
+    }
+}
+
+/// What is told of the troubles of each node.
+#[derive(Drop)]
+pub(crate) struct Troubles {
+    begun: Option<Instant>,
+    // the second of the last look
+    looked: u64,
+    told: [Told; 16],
+}
+
+impl Troubles {
+    /// Where nothing is told.
+    pub(crate) fn new<R: Clock>(rt: &R) -> Troubles {
+        Troubles {
+            begun: Instant::now(rt).ok(),
+            looked: 0,
+            told: [Told::new(); 16],
+        }
+    }
+
+    /// The node has failed: nothing else is told of it.
+    pub(crate) fn fail(&mut self, node: NodeNo) {
+        if let Some(told) = self.told.get_mut(place(node)) {
+            told.has_failed = true;
+        }
+    }
+
+    /// How many seconds have passed since the beginning.
+    fn second(&self, now: Option<Instant>) -> u64 {
+        match (self.begun, now) {
+            (Some(begun), Some(now)) => now.saturating_duration_since(begun).as_secs(),
+            _ => 0,
+        }
+    }
+
+    /// Looks at each node where that was not done in this second.
+    pub(crate) fn look_each_second<R: Wait + Clock, E: Write>(
+        &mut self,
+        rt: &R,
+        shared: &Shared,
+        log: &mut Log<'_, R, E>,
+    ) {
+        if self.second(Instant::now(rt).ok()) != self.looked {
+            self.look(rt, shared, log);
+        }
+    }
+
+    /// Looks at each node, and tells what is new.
+    pub(crate) fn look<R: Wait + Clock, E: Write>(
+        &mut self,
+        rt: &R,
+        shared: &Shared,
+        log: &mut Log<'_, R, E>,
+    ) {
+        let now = Instant::now(rt).ok();
+        let second = self.second(now);
+        self.looked = second;
+        let mut number = 0u8;
+        for (told, tally) in self.told.iter_mut().zip(&shared.tallies) {
+            number = number.saturating_add(1);
+            let Ok(node) = NodeNo::new(number) else {
+                break;
+            };
+            if told.has_failed {
+                continue;
+            }
+            let counts = tally.counts(rt);
+            told.tell_hang(log, node, hangs(counts.writing(now)), second);
+            told.tell_wants(log, node, shared.watch.wants(rt, node), second);
+            if shared.watch.is_verbose() {
+                told.tell_elections(log, node, counts.elections);
+            }
+        }
+    }
+}
