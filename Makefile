@@ -22,8 +22,8 @@
 # runbook: as root, the commands of the runbook in docs/OPERATING.md, from top to bottom, with the Debian package.
 # alerts: each alert is fired by what bin/ringd tells, for promtool.
 # copies: cinoweta backup copies the folder of bin/ringd under load, and each copy is started and asked.
-# hangs: one sync of bin/ringd takes 14 seconds, and the status port says so.
-# starts: bin/ringd is started with standard streams closed, and with few descriptors.
+# hangs: one sync of bin/ringd takes 14 seconds, and the status port and standard error say so.
+# starts: bin/ringd is started with standard streams closed, with few descriptors, and at other hosts; as root, beside a folder that is read only.
 # faults, growths: each call of the system that a ring makes fails in turn, and each growth of the programs is refused.
 # flips: each byte of the files of a ring by bin/ringd is changed, one at a time: whether a start refuses it, or what is answered then.
 # full, uses: the nodes of a ring are filled and retired, again and again; many groups elect each minute for an hour.

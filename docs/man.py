@@ -21,12 +21,13 @@ ringd \- a ring of durable nodes that elect a leader for each group and term
 .RB [ \-\-serve " \fIK\fR | " \-\-always " | " \-\-make " | " \-\-check " [" \-\-leaders ]]
 .RB [ \-\-ring " \fIID\fR]"
 .RB [ \-\-log " \fIFORM\fR]"
+.RB [ \-\-verbose ]
 .RB [ \-\-doors " \fIS\fR]"
 .RB [ \-\-idle " \fISECONDS\fR]"
 .RB [ \-\-leap " \fIN\fR]"
 .RB [ \-\-status " \fIPORT\fR]"
 .RB [ \-\-watchers " \fIW\fR]"
-.RB [ \-\-listen " \fIADDRESS\fR]"
+.RB [ \-\-listen " \fIHOST\fR]"
 .br
 .BR "ringd \-\-help" " | " \-\-version
 .SH DESCRIPTION"""

@@ -13,7 +13,10 @@ while [ $# -gt 0 ]; do
     esac
     shift
 done
-[ "$host" = 0.0.0.0 ] && host=127.0.0.1
+case $host in
+    0.0.0.0 | :: | \[::\]) host=127.0.0.1 ;;
+    \[*\]) host=${host:1:-1} ;;
+esac
 
 # lives: whether /live is answered with 200 within a second.
 lives() {

@@ -11,6 +11,7 @@ trap 'rm -rf "$made"' EXIT
 chmod 755 "$made"
 version=$(sed -n 's/^pub const VERSION: &str = "\(.*\)";$/\1/p' "$root/crates/ring_service/src/words.rt")
 debian=$root/packaging/debian
+commit=$(git -C "$root" rev-parse HEAD 2> /dev/null || echo unknown)
 epoch=$(git -C "$root" log -1 --format=%ct 2> /dev/null || date +%s)
 
 make -s -C "$root" install DESTDIR="$made" PREFIX=/usr > /dev/null
@@ -42,7 +43,7 @@ gzip -9n "$made"/usr/share/man/man*/*
 
 doc=$made/usr/share/doc/ringd
 install -D -m 644 "$debian/copyright" "$doc/copyright"
-printf 'ringd (%s-1) unstable; urgency=medium\n\n  * See CHANGELOG.md of the repository.\n\n -- %s  %s\n' "$version" \
+printf 'ringd (%s-1) unstable; urgency=medium\n\n  * See CHANGELOG.md of the repository, at commit %s.\n\n -- %s  %s\n' "$version" "$commit" \
     "$(sed -n 's/^Maintainer: //p' "$debian/control")" "$(LC_ALL=C date -u -R -d "@$epoch")" | gzip -9n > "$doc/changelog.Debian.gz"
 gzip -9nc "$root/CHANGELOG.md" > "$doc/changelog.gz"
 

@@ -4,7 +4,8 @@
 One sync of a node hangs, from outside: a call of `fdatasync` that begins SECONDS later (14 by default). Meanwhile the status port of the
 ring is asked each half second. Before ten seconds are over `/health` says `well`, then that this node hangs, with 503, and `well` again
 once the sync is over; `/metrics` tells for how long the device has been busy, and `/leaders` who leads, though the Stand that waits for the
-sync holds the node's one door. It is then answered, and its leader is known.
+sync holds a door of the node. It is then answered, and its leader is known. Once each it is told on standard error that the node hangs,
+and that it goes on: beside the status port, and again in a ring without one.
 
   --ringd PATH   the server, `bin/ringd` by default.
 
@@ -65,7 +66,7 @@ def look(port: int, begun: float) -> Seen:
     """What is told now."""
     status, health = get(port, "/health")
     metrics = get(port, "/metrics")[1]
-    # The node's one door is held by the Stand that waits.
+    # A door of the node is held by the Stand that waits.
     if get(port, f"/leaders/blue?node={NODE}")[0] != 200:
         raise Failed("it does not tell who leads")
     return Seen(time.monotonic() - begun, status, health, value(metrics, "cinoweta_node_hangs"), value(metrics, "cinoweta_writing_seconds"))
@@ -123,14 +124,18 @@ def watch(refuser: Refuser, port: int, status: int, pause: float) -> None:
     print(f"a sync of {pause:.0f} s: told from the tenth second on, the device busy for {longest} s at most; then well, and `stood`")
 
 
-def main() -> int:
-    words = argparse.ArgumentParser(usage=__doc__)
-    words.add_argument("--ringd", default="bin/ringd")
-    words.add_argument("--pause", type=float, default=14.0)
-    said = words.parse_args()
-    if not os.access(said.ringd, os.X_OK) or said.pause < HANG + 3:
-        print("hangs.py: ringd is not there, or the pause is under 13 seconds", file=sys.stderr)
-        return 2
+def stand(port: int, refuser: Refuser, pause: float) -> None:
+    """Asks node 2 for a Stand whose sync hangs, where nobody else is asked."""
+    with socket.create_connection(("127.0.0.1", port + NODE - 1), pause + 10) as session:
+        hang(refuser, pause)
+        if (told := exchange(session, "stand red 5 10")) != "stood":
+            raise Failed(f"the Stand is answered with {told!r}")
+    # What is over is told within a second.
+    time.sleep(LATE)
+
+
+def serve(ringd: str, pause: float, with_status: bool) -> None:
+    """A ring whose node 2 hangs, with a status port that is asked meanwhile or without one, and what it tells on standard error."""
     folder = tempfile.mkdtemp(prefix="hangs.")
     try:
         refuser = Refuser(folder)
@@ -139,20 +144,43 @@ def main() -> int:
         with open(settings, "w", encoding="ascii") as file:
             file.write(f'nodes = {NODES}\ndir = "{folder}/ring"\nport = {port}\n')
         os.mkdir(os.path.join(folder, "ring"))
-        ring = [os.path.abspath(said.ringd), "--settings", settings, "--always", "--status", str(port + NODES)]
-        with subprocess.Popen(ring, stdin=subprocess.DEVNULL, stdout=subprocess.PIPE, env=refuser.environment(Refusal("fdatasync"))) as process:
-            try:
-                while b"serving" not in (line := process.stdout.readline()):
-                    if not line:
-                        raise Failed("ringd does not serve")
-                watch(refuser, port, port + NODES, said.pause)
-            finally:
-                process.kill()
+        ring = [os.path.abspath(ringd), "--settings", settings, "--always", "--doors", "2"] + (["--status", str(port + NODES)] if with_status else [])
+        with open(os.path.join(folder, "err"), "w+b") as errors:
+            with subprocess.Popen(ring, stdin=subprocess.DEVNULL, stdout=subprocess.PIPE, stderr=errors,
+                                  env=refuser.environment(Refusal("fdatasync"))) as process:
+                try:
+                    while b"serving" not in (line := process.stdout.readline()):
+                        if not line:
+                            raise Failed("ringd does not serve")
+                    if with_status:
+                        watch(refuser, port, port + NODES, pause)
+                    else:
+                        stand(port, refuser, pause)
+                finally:
+                    process.kill()
+            errors.seek(0)
+            told = errors.read().decode("ascii", "replace").splitlines()
+        if told != [f"ringd: node {NODE} hangs", f"ringd: node {NODE} goes on"]:
+            raise Failed(f"on standard error is told {told}")
+    finally:
+        shutil.rmtree(folder, ignore_errors=True)
+    print(f"{'beside' if with_status else 'without'} a status port it was told once that node {NODE} hangs, and that it goes on")
+
+
+def main() -> int:
+    words = argparse.ArgumentParser(usage=__doc__)
+    words.add_argument("--ringd", default="bin/ringd")
+    words.add_argument("--pause", type=float, default=14.0)
+    said = words.parse_args()
+    if not os.access(said.ringd, os.X_OK) or said.pause < HANG + 3:
+        print("hangs.py: ringd is not there, or the pause is under 13 seconds", file=sys.stderr)
+        return 2
+    try:
+        for with_status in (True, False):
+            serve(said.ringd, said.pause, with_status)
     except (Failed, OSError) as fault:
         print(f"hangs.py: {fault}", file=sys.stderr)
         return 1
-    finally:
-        shutil.rmtree(folder, ignore_errors=True)
     return 0
 
 

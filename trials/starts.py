@@ -5,7 +5,9 @@ Starts a ring by `ringd` as a careless supervisor might: with each of its standa
 ways, over nodes whose capacity is another one than the settings say, which each start tells. It serves, or it ends
 since its output cannot be written, and behind it `--check` finds the files whole. Then with so few descriptors that its
 status port has fewer clients than it could have: it answers all the same. With fewer than the ring takes, and where a
-file may not have the length of a node's, it is refused, says what it takes, and leaves no file.
+file may not have the length of a node's, it is refused, says what it takes, and leaves no file. Where this runs as root,
+`--check` looks at the ring on a file system that is read only, and a start there is refused. At last it listens at an
+address of IPv6 and at a name, where this host has them, and is refused where a name has no address.
 
   --ringd PATH   the server, `bin/ringd` by default.
 
@@ -133,10 +135,72 @@ class Starts:
             raise Failed(f"a start that is refused leaves {left}")
 
 
-def answers(port: int) -> bool:
+    def read_only(self) -> bool:
+        """A look, and a start, where the folder is read only. Whether that can be had."""
+        mount = 'mount --bind "$0" "$0" && mount -o remount,ro,bind "$0" && ! touch "$0/new" 2> /dev/null && exec "$@"'
+        self.settings = os.path.join(self.folder, "ring.toml")
+        alone = ["unshare", "-m", "sh", "-c", mount, os.path.join(self.folder, "ring")]
+        if subprocess.run([*alone, "true"], capture_output=True, check=False).returncode != 0:
+            return False
+        before = os.listdir(os.path.join(self.folder, "ring"))
+        ringd = [*alone, self.ringd, "--settings", self.settings]
+        looked = subprocess.run([*ringd, "--check"], capture_output=True, timeout=SECONDS, check=False)
+        if looked.returncode != 0 or not looked.stdout.endswith(b"\naudit ok 0\n") or looked.stderr:
+            raise Failed(f"a look where nothing can be written ends with {looked.returncode}: {looked.stdout} {looked.stderr}")
+        started = subprocess.run([*ringd, "--always"], capture_output=True, timeout=SECONDS, check=False)
+        if started.returncode != 1 or b"Read-only file system (os error 30)" not in started.stderr:
+            raise Failed(f"a start where nothing can be written ends with {started.returncode}: {started.stderr}")
+        if os.listdir(os.path.join(self.folder, "ring")) != before:
+            raise Failed("a look changed the folder")
+        return True
+
+    def listens(self, said: str, host: str) -> None:
+        """A start that listens there, and a client who comes to this host."""
+        self.settings = os.path.join(self.folder, "ring.toml")
+        self.tell(MADE)
+        process = self.start(lambda: None, "--listen", said, "--status", str(self.port + NODES))
+        try:
+            until = time.monotonic() + SECONDS
+            while not answers(self.port, host) or not answers(self.port + 1, host):
+                if process.poll() is not None or time.monotonic() > until:
+                    raise Failed(f"with --listen {said} nobody is answered at {host}")
+                time.sleep(0.05)
+            with socket.create_connection((host, self.port + NODES), 1.0) as connection:
+                connection.sendall(b"GET /live HTTP/1.1\r\n\r\n")
+                if not connection.recv(64).startswith(b"HTTP/1.1 200 OK\r\n"):
+                    raise Failed(f"with --listen {said} the status port does not answer")
+        finally:
+            process.kill()
+            process.wait()
+
+    def hosts(self) -> list[str]:
+        """The words of --listen that this host can have, each tried, and one that none can."""
+        tried = []
+        for said, host in (("::1", "::1"), ("[::1]", "::1"), ("::", "127.0.0.1"), ("localhost", "localhost")):
+            if has(host if said != "::" else "::1"):
+                self.listens(said, host)
+                tried.append(said)
+        ended = subprocess.run([self.ringd, "--settings", self.settings, "--always", "--listen", "nobody.invalid"],
+                               capture_output=True, timeout=SECONDS, check=False)
+        told = "ringd: no address is known to listen at\nringd: nobody.invalid: no address\n"
+        if ended.returncode != 1 or not ended.stderr.decode("ascii", "replace").endswith(told):
+            raise Failed(f"where a name has no address it ends with {ended.returncode}: {ended.stderr}")
+        return tried
+
+
+def has(host: str) -> bool:
+    """Whether this host can be listened at so."""
+    try:
+        with socket.create_server((host, 0), family=socket.AF_INET6 if ":" in host else socket.AF_INET):
+            return True
+    except OSError:
+        return False
+
+
+def answers(port: int, host: str = "127.0.0.1") -> bool:
     """Whether a session at the port is answered."""
     try:
-        with socket.create_connection(("127.0.0.1", port), 1.0) as connection:
+        with socket.create_connection((host, port), 1.0) as connection:
             connection.sendall(b"latest red\n")
             return connection.recv(16) == b"none\n"
     except OSError:
@@ -157,6 +221,8 @@ def main() -> int:
         for count in DESCRIPTORS:
             starts.few(count)
         starts.bounded()
+        looked = starts.read_only()
+        hosts = starts.hosts()
     except (Failed, OSError, subprocess.TimeoutExpired) as fault:
         print(f"starts.py: {fault}", file=sys.stderr)
         return 1
@@ -164,6 +230,8 @@ def main() -> int:
         shutil.rmtree(folder)
     print(f"8 starts with and without standard streams, {len(DESCRIPTORS)} with few descriptors, and 5 with too few or "
           "where files may not be so long: as they are to be")
+    print("a look at a ring that is read only, as it is to be" if looked else "no look at a ring that is read only: not root")
+    print(f"listened at {', '.join(hosts)}, and not where a name has no address")
     return 0
 
 

@@ -1,5 +1,5 @@
 -- Where on a host ports are listened at.
-use Rattle.std.specs.Prelude.{ℕ, List, ◌≡◌, ◌⊎◌, ◌-◌, ⊥, length, take, drop}
+use Rattle.std.specs.Prelude.{ℕ, List, ◌≡◌, ◌⊎◌, ◌-◌, length, take, drop}
 use Rattle.std.specs.Net.Grammar.{IsIpText}
 use Rattle.std.specs.declared.net.ip_addr.IpAddr.{IpAddr}
 use Rattle.ring_service.specs.declared.host.Host.{Host}

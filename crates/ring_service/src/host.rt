@@ -1,5 +1,5 @@
 //! Where on a host ports are listened at.
-ghost use Rattle.std.specs.Prelude.{◌≡◌, IfSome, ⊥};
+ghost use Rattle.std.specs.Prelude.{◌≡◌, IfSome};
 ghost use Rattle.std.specs.Net.Grammar.{IsIpText, IsIpv6Text};
 ghost use Rattle.ring_service.specs.Hosts.{IsHost, inner_of};
 

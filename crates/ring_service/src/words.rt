@@ -2,7 +2,8 @@
 ghost use Rattle.std.specs.Prelude.{◌≡◌, ◌<◌, ◌≤◌, ◌||◌, true, false, nat_lt, is_none, Option, Some, None, IfOk, IfSome, map, codes, unwrap_or};
 ghost use Rattle.ring_records.specs.declared.limits.TheConstants.{DOORS};
 ghost use Rattle.clap.specs.Words.{app_of, first_value, found_of, one_text, rule_of, with_rule};
-ghost use Rattle.ring_service.specs.Words.{AreTold, Flag, IsForm, IsHost, IsIn, IsMatched, IsRing, IsSaid};
+ghost use Rattle.ring_service.specs.Words.{AreTold, Flag, IsForm, IsIn, IsMatched, IsRing, IsSaid};
+ghost use Rattle.ring_service.specs.Hosts.{IsHost};
 ghost use Rattle.ring_service.specs.Words.{ringd_app};
 
 mod args;
@@ -261,11 +262,10 @@ fn words_of<'a>(matches: &ArgMatches<'a>) -> Result<Words<'a>, Objection>
         None => "-",
     };
     let serve = number(matches, "serve", 1, 1000)?;
-    let doors = number(matches, "doors", 1, DOORS)?;
     let idle = number(matches, "idle", 0, 86_400)?;
     let status = port(matches)?;
     let watchers = number(matches, "watchers", 0, 64)?;
-    let doors = doors.unwrap_or(1);
+    let doors = number(matches, "doors", 1, DOORS)?.unwrap_or(1);
     if !have_place(doors, status) {
         return Err(Objection::Doors);
     }
