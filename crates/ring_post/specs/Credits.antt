@@ -1,5 +1,5 @@
 -- When a node is told of its successor's credits.
-use Rattle.std.specs.Prelude.{ℕ, ◌+◌, ◌-◌, ◌*◌, nat_le, nat_lt, Bool, ◌&&◌, ◌||◌, if◌then◌else◌, Option, Some, None}
+use Rattle.std.specs.Prelude.{ℕ, ◌-◌, ◌*◌, nat_le, nat_lt, Bool, ◌&&◌, ◌||◌, if◌then◌else◌, Option, Some, None}
 use Rattle.commit_hub.specs.declared.look.Look.{Look}
 use Rattle.ring_post.specs.Room.{has_little_room}
 use Rattle.ring_post.specs.declared.credits.Credits.{Credits}

@@ -8,6 +8,7 @@ use commit_hub::{Hub, Node};
 use decision_board::Naming;
 use disk_model::Device;
 use group_commit::Landed;
+use ring_post::Letter;
 use ring_records::{Notice, Refusal};
 use ring_service::{Flusher, Gate};
 use ring_status::Landing;
@@ -77,7 +78,11 @@ fn landing_of(landed: &Landed) -> Landing
 /// Counts what landed, and sends what that releases.
 fn release<R: Wait>(rt: &R, landed: &Landed, links: &Links<'_>) {
     links.tally.land(rt, landing_of(landed));
-    links.send_all(rt, &landed.packets);
+    for index in 0..landed.packets.len() {
+        if let Some(letter) = Letter::of_landed(links.place(), landed, index) {
+            links.post.send(rt, letter);
+        }
+    }
 }
 
 /// A round was refused for want of memory, as were all since then: counts it, has that told where it lasts, and waits a

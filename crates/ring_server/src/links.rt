@@ -6,15 +6,12 @@ use crate::shared::Shared;
 use crate::turnstile::Turnstile;
 use crate::watch::Watch;
 use disk_model::SystemFault;
-use ring_post::{Repeats, is_missing, receiver_of};
-use ring_records::{NodeNo, Packet};
+use ring_post::{Repeats, RingPlace};
+use ring_records::NodeNo;
 use ring_watch::{Reception, Tally};
 use std::sync::atomic::{AtomicU64, Ordering};
 use std::sync::{Mutex, Wait};
 use std::time::{Clock, Instant};
-
-/// How many messages are sent again at once. So a letterbox has twice as many at most that were sent before.
-const AGAIN: usize = 1_024;
 
 /// When messages were sent again, in milliseconds from the first look on.
 #[derive(Clone, Copy)]
@@ -95,16 +92,13 @@ impl<'a> Links<'a> {
         }
     }
 
-    /// Sends a message to the successor, a credit to the predecessor.
-    pub(crate) fn send<R: Wait>(&self, rt: &R, packet: Packet) {
-        let receiver = receiver_of(self.node, self.nodes, &packet);
-        self.post.send(rt, receiver, packet);
-    }
-
-    /// Sends all of them, in this order.
-    pub(crate) fn send_all<R: Wait>(&self, rt: &R, packets: &[Packet]) {
-        for packet in packets {
-            self.send(rt, *packet);
+    /// The node's place in the ring.
+    pub(crate) fn place(&self) -> RingPlace
+        ensures { (result.node ≡ self.now.node) × (result.nodes ≡ self.now.nodes) }
+    {
+        RingPlace {
+            node: self.node,
+            nodes: self.nodes,
         }
     }
 
@@ -113,11 +107,14 @@ impl<'a> Links<'a> {
         self.post.done(self.node);
     }
 
-    /// Hears that the successor has so many messages, durably. The inbox alone calls it.
+    /// The successor has so many messages, durably, as the inbox has heard.
     pub(crate) fn hear(&self, upto: u64) {
-        if self.successor.heard.load(Ordering::SeqCst) < upto {
-            self.successor.heard.store(upto, Ordering::SeqCst);
-        }
+        self.successor.heard.store(upto, Ordering::SeqCst);
+    }
+
+    /// How many messages the successor has, as far as is heard.
+    pub(crate) fn heard(&self) -> u64 {
+        self.successor.heard.load(Ordering::SeqCst)
     }
 
     /// Whether a message may be lost, and is to be sent again: none waits at the successor, whose credit has stood
@@ -129,24 +126,7 @@ impl<'a> Links<'a> {
         let Ok(now) = Instant::now(rt) else {
             return false;
         };
-        let heard = self.successor.heard.load(Ordering::SeqCst);
-        self.successor.resending.lock(rt).is_due(now, heard)
-    }
-
-    /// Sends the first packets of the node's window again that the successor is not known to have; of what it is known
-    /// to have the node may not have been told yet.
-    pub(crate) fn send_again<R: Wait>(&self, rt: &R, window: &[Packet]) {
-        let heard = self.successor.heard.load(Ordering::SeqCst);
-        let mut left = AGAIN;
-        for packet in window {
-            if left == 0 {
-                break;
-            }
-            if is_missing(packet, heard) {
-                left -= 1;
-                self.send(rt, *packet);
-            }
-        }
+        self.successor.resending.lock(rt).is_due(now, self.heard())
     }
 
     /// The node has failed, with what the system answered, where that is known.

@@ -19,7 +19,8 @@ use commit_hub::{Hub, Node, Share};
 use crossbeam_channel::Receiver;
 use decision_board::{Board, Naming};
 use disk_model::Device;
-use ring_records::{Packet, Shown};
+use ring_post::Letter;
+use ring_records::Shown;
 use ring_service::{Flusher, opened_board};
 use std::alloc::Global;
 use std::net::TcpListener;
@@ -38,7 +39,7 @@ struct Crew<J: Naming, A: Node> {
 /// What the inbox, the doors and the clerk of a node take with them.
 #[derive(Drop)]
 struct Ends<J: Naming, A: Node> {
-    inbox: Receiver<Packet>,
+    inbox: Receiver<Letter>,
     listener: TcpListener,
     doors: Doors,
     crew: Crew<J, A>,
@@ -211,7 +212,7 @@ fn serve_inbox<A: Node, R: Wait + Clock>(
     rt: &R,
     common: &Common<'_, A>,
     share: Share<A>,
-    inbox: &Receiver<Packet>,
+    inbox: &Receiver<Letter>,
 ) -> Share<A> {
     let (hub, links) = (common.hub, common.links);
     let share = if common.latch.wait(rt) {
@@ -244,7 +245,7 @@ fn start_inbox<'s, N: 's, A: Node + Send + Sync + 's, R: Wait + Clock + Sync>(
     rt: &'s R,
     common: &'s Common<'s, A>,
     share: Share<A>,
-    inbox: &'s Receiver<Packet>,
+    inbox: &'s Receiver<Letter>,
     handles: &mut Vec<JoinHandle<Share<A>>>,
 ) -> Result<(), Shortage> {
     let started = scope
@@ -323,7 +324,7 @@ fn start_crew<
     rt: &'s R,
     common: &'s Common<'s, A>,
     crew: Crew<J, A>,
-    inbox: &'s Receiver<Packet>,
+    inbox: &'s Receiver<Letter>,
     front: &'s Front,
     handles: &mut Vec<JoinHandle<Share<A>>>,
 ) -> Result<(), Shortage> {

@@ -1,7 +1,6 @@
 //! What an inbox comes upon.
 use crossbeam_channel::Receiver;
-use ring_post::Pace;
-use ring_records::Packet;
+use ring_post::{Letter, Pace};
 use std::sync::Wait;
 use std::time::{Clock, Duration};
 
@@ -16,23 +15,23 @@ const SILENCE: u64 = 500;
 
 /// What an inbox comes upon.
 pub(crate) enum Coming {
-    /// A packet.
-    Packet(Packet),
+    /// A letter.
+    Letter(Letter),
     /// Nothing, for half a second.
     Silence,
     /// The letterbox is closed and empty.
     End,
 }
 
-/// The next packet, a silence, or the end.
-pub(crate) fn next<R: Wait + Clock>(rt: &R, pace: &mut Pace, inbox: &Receiver<Packet>) -> Coming {
+/// The next letter, a silence, or the end.
+pub(crate) fn next<R: Wait + Clock>(rt: &R, pace: &mut Pace, inbox: &Receiver<Letter>) -> Coming {
     if pace.gathers() {
         rt.sleep(Duration::from_micros(GATHER));
     }
     match within(rt, inbox, Duration::from_micros(REST)) {
-        Coming::Packet(packet) => {
+        Coming::Letter(letter) => {
             pace.begin();
-            Coming::Packet(packet)
+            Coming::Letter(letter)
         }
         Coming::Silence => {
             pace.rest();
@@ -43,9 +42,9 @@ pub(crate) fn next<R: Wait + Clock>(rt: &R, pace: &mut Pace, inbox: &Receiver<Pa
 }
 
 /// What an inbox comes upon within this time.
-fn within<R: Wait + Clock>(rt: &R, inbox: &Receiver<Packet>, time: Duration) -> Coming {
+fn within<R: Wait + Clock>(rt: &R, inbox: &Receiver<Letter>, time: Duration) -> Coming {
     match inbox.recv_timeout(rt, time) {
-        Ok(packet) => Coming::Packet(packet),
+        Ok(letter) => Coming::Letter(letter),
         Err(fault) => {
             if fault.is_timeout() {
                 Coming::Silence

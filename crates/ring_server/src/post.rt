@@ -2,7 +2,8 @@
 ghost use Rattle.std.specs.Prelude.{◌≡◌};
 
 use crossbeam_channel::{Receiver, Sender, unbounded};
-use ring_records::{NodeNo, Packet};
+use ring_post::Letter;
+use ring_records::NodeNo;
 use ring_status::Letters;
 use std::alloc::{AllocError, Global};
 use std::sync::atomic::{AtomicU64, Ordering};
@@ -11,11 +12,11 @@ use std::sync::{Mutex, Wait};
 /// A node's letterbox, and how many messages were sent to it that it has not answered for yet.
 #[derive(Drop)]
 struct Letterbox {
-    sender: Mutex<Option<Sender<Packet>>>,
+    sender: Mutex<Option<Sender<Letter>>>,
     waiting: AtomicU64,
 }
 
-/// Where packets are sent to, and how many nodes have a door that is not done. It alone holds senders, so that all letterboxes
+/// Where letters are sent to, and how many nodes have a door that is not done. It alone holds senders, so that all letterboxes
 /// close at once: an inbox sends too, and would keep the next one open else.
 #[derive(Drop)]
 pub struct Post {
@@ -25,7 +26,7 @@ pub struct Post {
 
 impl Post {
     /// With a letterbox for each of so many nodes, and their receivers in order of node.
-    pub fn new(alloc: Global, nodes: u8) -> Result<(Post, Vec<Receiver<Packet>>), AllocError> {
+    pub fn new(alloc: Global, nodes: u8) -> Result<(Post, Vec<Receiver<Letter>>), AllocError> {
         let mut boxes = Vec::with_capacity(alloc, usize::from(nodes))?;
         let mut receivers = Vec::with_capacity(alloc, usize::from(nodes))?;
         for _ in 0..nodes {
@@ -43,18 +44,19 @@ impl Post {
         self.boxes.get(usize::from(node.number()) - 1)
     }
 
-    /// Sends to a node. What finds no memory is lost, as is what comes after the last door. A message waits there until
-    /// the node has done with it.
-    pub fn send<R: Wait>(&self, rt: &R, node: NodeNo, packet: Packet) {
+    /// Sends a letter to the node that it goes to. What finds no memory is lost, as is what comes after the last door. A message
+    /// waits there until the node has done with it.
+    pub fn send<R: Wait>(&self, rt: &R, letter: Letter) {
+        let node = letter.to();
         let Some(letterbox) = self.letterbox(node) else {
             return;
         };
-        let waits = matches!(&packet, Packet::Carry { .. });
+        let waits = letter.brings().is_some();
         if waits {
             letterbox.waiting.fetch_add(1, Ordering::SeqCst);
         }
         let is_sent = match letterbox.sender.lock(rt).as_ref() {
-            Some(sender) => sender.send(rt, packet).is_ok(),
+            Some(sender) => sender.send(rt, letter).is_ok(),
             None => false,
         };
         if waits && !is_sent {

@@ -25,7 +25,8 @@ use crossbeam_channel::Receiver;
 use disk_model::FileDevice;
 use folder_plan::{FolderStep, Identity};
 use log_lines::{Level, LogForm};
-use ring_records::{NodeNo, Packet};
+use ring_post::Letter;
+use ring_records::NodeNo;
 use ring_service::{Settings, Words, read_words};
 use ring_watch::{Inquiry, StatusPort};
 use std::alloc::{AllocError, Global};
@@ -394,7 +395,7 @@ fn make_ready<R: Files<File = File>, C: Clock, E: Write>(
 fn take_sites(
     alloc: Global,
     ring: Vec<Ready<FileDevice>>,
-    inboxes: Vec<Receiver<Packet>>,
+    inboxes: Vec<Receiver<Letter>>,
     listeners: Vec<TcpListener>,
     clerks: Vec<Receiver<Inquiry>>,
     doors: Doors,

@@ -8,7 +8,8 @@ use commit_hub::Blanks;
 use crossbeam_channel::Receiver;
 use decision_board::Opened;
 use disk_model::Device;
-use ring_records::{DOORS, NodeNo, Packet};
+use ring_post::Letter;
+use ring_records::{DOORS, NodeNo};
 use ring_watch::Inquiry;
 use std::alloc::Global;
 use std::net::TcpListener;
@@ -88,7 +89,7 @@ impl Doors {
 /// Where messages and clients come to a node, how its doors serve, and what its clerk is asked, where it has one.
 #[derive(Drop)]
 pub(crate) struct Entrance {
-    pub(crate) inbox: Receiver<Packet>,
+    pub(crate) inbox: Receiver<Letter>,
     pub(crate) listener: TcpListener,
     pub(crate) doors: Doors,
     pub(crate) asked: Option<Receiver<Inquiry>>,
@@ -113,7 +114,7 @@ impl<V: Device> Site<V> {
     pub fn new(
         alloc: Global,
         opened: OpenNode<V>,
-        inbox: Receiver<Packet>,
+        inbox: Receiver<Letter>,
         listener: TcpListener,
         doors: Doors,
         asked: Option<Receiver<Inquiry>>,

@@ -1,4 +1,6 @@
 // What is counted of a node, and what is told of that at moments that the test tells.
+use group_commit::Landed;
+use ring_post::{Letter, RingPlace};
 use ring_records::{Bid, Candidate, GroupName, Key, Msg, NodeNo, Packet, Shown, Term};
 use ring_server::Post;
 use ring_status::{
@@ -189,12 +191,20 @@ fn carry(rt: &impl Abort, no: u64) -> Packet {
 #[test]
 fn letters_wait_at_the_node_that_they_were_sent_to(rt: HostRuntime) -> Result<(), Fail> {
     let (post, _inboxes) = Post::new(rt.alloc(), 3)?;
-    let second = NodeNo::new(2).expect(&rt, "a node");
-    post.send(&rt, second, carry(&rt, 0));
-    post.send(&rt, second, carry(&rt, 1));
-    // a credit is no letter
-    post.send(&rt, second, Packet::Credit { upto: 1 });
-    post.done(second);
+    let mut landed = Landed::new(rt.alloc());
+    landed.packets.push(carry(&rt, 0))?;
+    landed.packets.push(carry(&rt, 1))?;
+    // for a credit nobody waits
+    landed.packets.push(Packet::Credit { upto: 1 })?;
+    let first = RingPlace {
+        node: NodeNo::first(),
+        nodes: 3,
+    };
+    for index in 0..3 {
+        let letter = Letter::of_landed(first, &landed, index).expect(&rt, "a letter");
+        post.send(&rt, letter);
+    }
+    post.done(NodeNo::new(2).expect(&rt, "a node"));
     for (number, count) in [(1, 0), (2, 1), (3, 0)] {
         let node = NodeNo::new(number).expect(&rt, "a node");
         assert!(rt; post.letters(node) == Letters { node, count }, "{number}");

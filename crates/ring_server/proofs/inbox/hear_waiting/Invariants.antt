@@ -1,0 +1,6 @@
+use Rattle.ring_post.specs.Intakes.{IsFree}
+use Rattle.ring_server.proofs.inbox.hear_waiting.Given as goal
+
+-- it hears on
+abbrev pub invariant-loop : goal.invariant-loop
+invariant-loop g l = IsFree l.inbox.intake
