@@ -107,7 +107,7 @@ fn shared<J: Naming + Send + Sync, R: Threads + Wait + Sync>(
     opened: Opened,
     load: Load,
 ) -> Result<u64, Refusal>
-    requires { opened ≡ J.book }
+    requires { opened ≡ J.history }
 {
     let notices = first_notices(alloc)?;
     let mut board: Board<J> = Board::new(alloc, opened, &notices, load.readers)?;
@@ -176,7 +176,7 @@ fn append<J: Naming, R: Wait>(
     opened: Opened,
     keys: u32,
 ) -> Result<u64, Refusal>
-    requires { opened ≡ J.book }
+    requires { opened ≡ J.history }
 {
     let mut board: Board<J> = Board::new(alloc, opened, &[], 1)?;
     let publishes = append_all(rt, &mut board, keys);

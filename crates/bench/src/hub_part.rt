@@ -285,7 +285,7 @@ fn on_hub<
     blanks: Blanks,
     load: Load,
 ) -> Result<(V, Counts), Refusal>
-    requires history { opened ≡ J.book }
+    requires history { opened ≡ J.history }
     requires desk { desk.view.member ≡ A.member }
     requires opening { desk.opening ≡ A.opening }
     requires none { desk.view.state.checkpoint ≡ None }

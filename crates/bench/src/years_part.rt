@@ -80,7 +80,7 @@ fn on_first<J: Naming, A: Node, R: Wait>(
     blanks: Blanks,
     load: Load,
 ) -> Result<Counts, Refusal>
-    requires history { opened ≡ J.book }
+    requires history { opened ≡ J.history }
     requires desk { desk.view.member ≡ A.member }
     requires opening { desk.opening ≡ A.opening }
     requires none { desk.view.state.checkpoint ≡ None }
@@ -124,7 +124,7 @@ fn on_second<F: Seat, J: Naming, A: Node, R: Wait>(
     first: &mut F,
     load: Load,
 ) -> Result<Counts, Refusal>
-    requires history { opened ≡ J.book }
+    requires history { opened ≡ J.history }
     requires desk { desk.view.member ≡ A.member }
     requires opening { desk.opening ≡ A.opening }
     requires none { desk.view.state.checkpoint ≡ None }
@@ -172,7 +172,7 @@ fn on_third<F: Seat, S: Seat, J: Naming, A: Node, R: Wait>(
     second: &mut S,
     load: Load,
 ) -> Result<Counts, Refusal>
-    requires history { opened ≡ J.book }
+    requires history { opened ≡ J.history }
     requires desk { desk.view.member ≡ A.member }
     requires opening { desk.opening ≡ A.opening }
     requires none { desk.view.state.checkpoint ≡ None }

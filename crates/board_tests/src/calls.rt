@@ -37,7 +37,7 @@ fn read_around<J: Naming, R: Wait>(
     old: &Decision,
     new: &Decision,
 ) -> Result<Reads, Refusal>
-    requires { opened ≡ J.book }
+    requires { opened ≡ J.history }
 {
     let opening = Notice::Decided(*old);
     let mut board: Board<J> = Board::new(alloc, opened, std::slice::from_ref(&opening), 1)?;
@@ -53,6 +53,9 @@ fn read_around<J: Naming, R: Wait>(
     let shown = board.publish(rt);
     reader.learn(board.tell());
     let published = reader.latest(group);
+    let saw = reader.saw();
+    board.covers(&saw);
+    reader.learn(saw);
     board.end(rt);
     let ended = reader.latest(group);
     done?;
@@ -97,7 +100,7 @@ fn read_all<J: Naming, R: Wait>(
     more: &[Decision],
     asked: &[Key; 6],
 ) -> Result<Answers, Refusal>
-    requires { opened ≡ J.book }
+    requires { opened ≡ J.history }
 {
     let told = notices(alloc, opening)?;
     let mut board: Board<J> = Board::new(alloc, opened, &told, 32)?;
@@ -167,7 +170,7 @@ fn fill_places<J: Naming, R: Wait>(
     alloc: Global,
     opened: Opened,
 ) -> Result<(usize, Result<(), Refusal>, Result<(), Refusal>), Refusal>
-    requires { opened ≡ J.book }
+    requires { opened ≡ J.history }
 {
     let board: Board<J> = Board::new(alloc, opened, &[], 32)?;
     let mut readers: Vec<BoardReader<J>> = Vec::new(alloc);

@@ -29,7 +29,7 @@ fn read_behind<J: Naming, R: Wait>(
     first: &Decision,
     last: &Decision,
 ) -> Result<Walk, Refusal>
-    requires { opened ≡ J.book }
+    requires { opened ≡ J.history }
 {
     let told = notices(alloc, decisions)?;
     let board: Board<J> = Board::new(alloc, opened, &told, 1)?;

@@ -62,7 +62,7 @@ fn grow_all<J: Naming, R: Wait>(
     old: &Decision,
     new: &[Notice],
 ) -> Result<Refused, Refusal>
-    requires { opened ≡ J.book }
+    requires { opened ≡ J.history }
 {
     let opening = Notice::Decided(*old);
     let mut board: Board<J> = Board::new(alloc, opened, std::slice::from_ref(&opening), 2)?;

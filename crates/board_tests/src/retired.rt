@@ -111,7 +111,7 @@ fn plays<J: Naming, R: Wait + Abort>(
 }
 
 fn play_all<J: Naming, R: Wait + Abort + AllocGlobal>(rt: &R, opened: Opened) -> Result<(), Refusal>
-    requires { opened ≡ J.book }
+    requires { opened ≡ J.history }
 {
     let mut board: Board<J> = Board::new(rt.alloc(), opened, &[], 1)?;
     let place = board.reader();

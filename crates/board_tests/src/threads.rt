@@ -37,7 +37,7 @@ fn publish_beside<J: Naming + Send + Sync, R: Threads + Wait + Sync>(
     opened: Opened,
     red: &Decision,
 ) -> Result<Reads, Refusal>
-    requires { opened ≡ J.book }
+    requires { opened ≡ J.history }
 {
     let mut board: Board<J> = Board::new(alloc, opened, &[], 1)?;
     let place = board.reader();
@@ -125,7 +125,7 @@ fn read_in_two_threads<J: Naming + Send + Sync, R: Threads + Wait + Sync>(
     opened: Opened,
     last: &Decision,
 ) -> Result<Both, Refusal>
-    requires { opened ≡ J.book }
+    requires { opened ≡ J.history }
 {
     let mut board: Board<J> = Board::new(alloc, opened, &[], 2)?;
     let place = board.reader();

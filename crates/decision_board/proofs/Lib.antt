@@ -1,5 +1,5 @@
-mod Adding
 mod Boards
+mod Histories
 mod Maps
 mod Next
 mod Steps

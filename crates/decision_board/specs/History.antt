@@ -1,15 +1,25 @@
--- The rule of the history, and what its steps tell.
-use Rattle.std.specs.Prelude.{ℕ, ◌≡◌, ◌==◌, true, List, [], ◌∷◌, ◌++◌, length, MatchBool}
-use Rattle.logbook.specs.Pages.{Cell, Step, View, Book, Named}
+-- The history of a board: all notices that it took in, in order. It only grows, and who may add to it says what it is.
+use Rattle.std.specs.Prelude.{ℕ, List}
+use Rattle.std.specs.Coded.{Coded, codes}
+use base.Fml.{Fml}
+use base.Fraction.{full_share}
+use base.Growing.{Order, prefixes, latest, at_least}
 use Rattle.ring_records.specs.declared.notice.Notice.{Notice}
 
--- the first word is the length of the history. A book has two words, of which this one leaves the second at 0
-abbrev pub IsCounted : List Cell → List Notice → Type 0
-IsCounted cells log = cells ≡ (length log, true) ∷ (0, true) ∷ []
+pub coded_notice : Coded Notice
+coded_notice = hlevel codes
 
-abbrev pub head_of : Book → Named
-head_of b = record { tracked = true; key = 0; book = b }
+pub coded_notices : Coded (List Notice)
+coded_notices = hlevel codes
 
--- the notice was added to all that had been seen; or the history was longer, and was seen
-abbrev pub Adds : Step Notice → View Notice ℕ → ℕ → View Notice ℕ → Type 0
-Adds s v found w = MatchBool (found == s.old) (w.0 ≡ v.0 ++ s.ask ∷ []) (length w.0 ≡ found)
+-- lists that are only added to
+abbrev pub histories : Order (List Notice)
+histories = prefixes coded_notice
+
+-- the history of this name is this, and is added to by who has this
+abbrev pub right_owns : ℕ → List Notice → Fml
+right_owns history notices = latest histories full_share history notices
+
+-- the history of this name began with these notices once, and does so for good
+abbrev pub mark_owns : ℕ → List Notice → Fml
+mark_owns history notices = at_least histories history notices

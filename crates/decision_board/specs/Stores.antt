@@ -1,6 +1,5 @@
 -- What a copy of the board keeps, and what it becomes.
-use Rattle.std.specs.Prelude.{◌≡◌, List, [], ◌∷◌, ◌++◌, map}
-use Rattle.logbook.specs.Pages.{Book}
+use Rattle.std.specs.Prelude.{ℕ, ◌≡◌, List, [], ◌∷◌, ◌++◌, map}
 use Rattle.ring_records.specs.declared.notice.Notice.{Notice}
 use Rattle.decision_board.specs.declared.history.Front.{Front}
 use Rattle.decision_board.specs.declared.store.Store.{Store}
@@ -15,9 +14,9 @@ abbrev pub after : LeaderMap × FloorMap × Front → Entry → LeaderMap × Flo
 after state entry = ((taken_in (state.0, state.1) entry.notice).0, (taken_in (state.0, state.1) entry.notice).1, entry.front)
 
 -- The entries go on from the list ds of the history: the front of each is the history that ends with its notice.
-unfoldable pub GoOn : Book → List Notice → List Entry → Type 0
-GoOn book ds [] = Unit {0}
-GoOn book ds (e ∷ es) = (e.front.seen.book ≡ book) × (e.front.seen.log ≡ ds ++ e.notice ∷ []) × GoOn book (ds ++ e.notice ∷ []) es
+unfoldable pub GoOn : ℕ → List Notice → List Entry → Type 0
+GoOn history ds [] = Unit {0}
+GoOn history ds (e ∷ es) = (e.front.mark.history ≡ history) × (e.front.mark.notices ≡ ds ++ e.notice ∷ []) × GoOn history (ds ++ e.notice ∷ []) es
 
 abbrev pub notices_of : List Entry → List Notice
 notices_of es = map (λ e. e.notice) es

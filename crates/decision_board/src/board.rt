@@ -1,19 +1,18 @@
 // The publisher's end of a board.
-ghost use Rattle.std.specs.Prelude.{◌≡◌, ◌+◌, ◌-◌, ◌^◌, ◌≤◌, nat_le, ◌&&◌, ◌++◌, ◌∷◌, [], min, drop, MatchOption, MatchResult, OnOk, IfOk, IfErr};
+ghost use Rattle.std.specs.Prelude.{◌≡◌, ◌+◌, ◌-◌, ◌^◌, ◌≤◌, nat_le, ◌&&◌, ◌++◌, ◌∷◌, [], min, drop, MatchResult, OnOk, IfOk, IfErr};
+ghost use mathlib.Core.List.{IsPrefix};
 ghost use Rattle.ring_records.specs.declared.refusal.Refusal.TheVariants.{OutOfMemory, NoPlace};
 ghost use Rattle.decision_board.specs.Boards.{published, pending, refusals, LackedMemory, seen, learned};
-ghost use Rattle.decision_board.specs.History.{head_of};
 ghost use Rattle.decision_board.specs.Posts.{IsPosted};
 ghost use Rattle.decision_board.specs.Stores.{GoOn, notices_of, state_of};
 
-use crate::history::{Front, Law, Naming, Opened};
+use crate::history::{Front, Naming, Opened, Whole};
 use crate::reader::BoardReader;
 use crate::rule::{Posted, Sees};
 use crate::store::{Entry, Store};
 use crate::told::Told;
 use core::mem::replace_with;
 use left_right::writer::Writer;
-use logbook::Word;
 use ring_records::{Notice, Refusal};
 use std::alloc::{AllocError, Global};
 use std::collections::VecDeque;
@@ -33,9 +32,8 @@ type Publisher<J> = Writer<Store, Entry, [Notice; 0], Posted<J>>;
 /// growths were refused. It is not dropped: `end` alone ends it.
 pub struct Board<J: Naming> {
     writer: Writer<Store, Entry, [Notice; 0], Posted<J>>,
-    head: Word<Notice, u64, Law>,
+    whole: Whole,
     start: Front,
-    all: Front,
     waiting: VecDeque<Entry>,
     refusals: u64,
 }
@@ -44,17 +42,16 @@ impl<J: Naming> Model for Board<J> {
     ghost use Rattle.std.specs.Prelude.{◌≡◌, List, [], ◌++◌, drop};
     ghost use Rattle.ring_records.specs.declared.notice.Notice.{Notice};
     ghost use Rattle.decision_board.specs.Boards.{BoardView};
-    ghost use Rattle.decision_board.specs.History.{head_of};
     ghost use Rattle.decision_board.specs.Posts.{IsPosted};
     ghost use Rattle.decision_board.specs.Stores.{GoOn, notices_of};
 
     ghost Value = { BoardView };
 
-    ghost view = { λ b. (b.writer.desk.shown.value.front.seen.log, notices_of (drop b.writer.behind b.writer.log.items ++ b.waiting.items), b.refusals) };
+    ghost view = { λ b. (b.writer.desk.shown.value.front.mark.notices, notices_of (drop b.writer.behind b.writer.log.items ++ b.waiting.items), b.refusals) };
 
-    ghost invariant = { λ b. (b.head ≡ head_of J.book) × (b.start.seen.book ≡ J.book) × (b.start.seen.log ≡ []) × (b.all.seen.book ≡ J.book)
-        × (b.all.seen.log ≡ b.writer.desk.shown.value.front.seen.log ++ notices_of (drop b.writer.behind b.writer.log.items ++ b.waiting.items))
-        × IsPosted J.book b.writer.desk.shown.value × GoOn J.book b.writer.desk.shown.value.front.seen.log (drop b.writer.behind b.writer.log.items ++ b.waiting.items) };
+    ghost invariant = { λ b. (b.whole.right.history ≡ J.history) × (b.start.mark.history ≡ J.history) × (b.start.mark.notices ≡ [])
+        × (b.whole.right.notices ≡ b.writer.desk.shown.value.front.mark.notices ++ notices_of (drop b.writer.behind b.writer.log.items ++ b.waiting.items))
+        × IsPosted J.history b.writer.desk.shown.value × GoOn J.history b.writer.desk.shown.value.front.mark.notices (drop b.writer.behind b.writer.log.items ++ b.waiting.items) };
 }
 
 impl<J: Naming> Board<J> {
@@ -65,26 +62,24 @@ impl<J: Naming> Board<J> {
         notices: &[Notice],
         readers: usize,
     ) -> Result<Board<J>, Refusal>
-        requires history { opened ≡ J.book }
+        requires history { opened ≡ J.history }
         requires readers { (1 ≤ readers) × (readers ≤ 32) }
         ensures published { IfOk result (λ b. published b ≡ notices.now) }
         ensures pending { IfOk result (λ b. pending b ≡ []) }
         ensures refusals { IfOk result (λ b. refusals b ≡ 0) }
         ensures refused { IfErr result (λ e. e ≡ OutOfMemory) }
     {
-        let (head, start) = opened.into_parts();
-        let mut all = start.again();
+        let (mut whole, start) = opened.into_parts();
         let mut first = Store::new(alloc, start.again());
         let mut second = Store::new(alloc, start.again());
-        if take_all::<J>(&head, &mut all, &mut first, &mut second, notices).is_err() {
+        if take_all::<J>(&mut whole, &mut first, &mut second, notices).is_err() {
             return Err(Refusal::OutOfMemory);
         }
         match Writer::new(alloc, first, second, readers) {
             Ok(writer) => Ok(Board {
                 writer,
-                head,
+                whole,
                 start,
-                all,
                 waiting: VecDeque::new(alloc),
                 refusals: 0,
             }),
@@ -102,9 +97,9 @@ impl<J: Naming> Board<J> {
         if self.waiting.reserve(1).is_err() {
             return Err(refuse(&mut self.refusals));
         }
-        match entered(&self.head, &mut self.all, &notice) {
-            Some(entry) => {
-                self.waiting.push_back_reserved(entry);
+        match self.whole.add(&notice) {
+            Some(front) => {
+                self.waiting.push_back_reserved(Entry { notice, front });
                 Ok(())
             }
             None => Err(refuse(&mut self.refusals)),
@@ -142,6 +137,14 @@ impl<J: Naming> Board<J> {
         Told::new(self.writer.published().front.again())
     }
 
+    /// Changes nothing, and nothing runs: what is published and what was appended since begin with what was told.
+    pub fn covers(&mut self, told: &Told<J>)
+        ensures begins { IsPrefix told.now (published self.old ++ pending self.old) }
+        ensures same { self.new ≡ self.old }
+    {
+        self.whole.covers(told.front());
+    }
+
     /// A reader, which has seen nothing and learned what is published; refused as 20 where there is no place for it.
     pub fn reader(&self) -> Result<BoardReader<J>, Refusal>
         ensures seen { IfOk result (λ r. seen r ≡ []) }
@@ -162,9 +165,8 @@ impl<J: Naming> Board<J> {
     pub fn end<R: Wait>(self, rt: &R) {
         let Board {
             writer,
-            head: _head,
+            whole: _whole,
             start: _start,
-            all: _all,
             waiting: _waiting,
             refusals: _,
         } = self;
@@ -182,38 +184,27 @@ fn refuse(refusals: &mut u64) -> Refusal
     Refusal::OutOfMemory
 }
 
-// The notice, and the history that ends with it. None where the history is longer than what was seen, and then nothing
-// changed: nobody but the board adds to it, but no clause says so.
-fn entered(head: &Word<Notice, u64, Law>, all: &mut Front, notice: &Notice) -> Option<Entry>
-    requires { head.now ≡ head_of all.old.seen.book }
-    ensures { MatchOption result (all.new ≡ all.old)
-        (λ e. (e.notice ≡ notice.now) × (e.front ≡ all.new) × (all.new.seen.book ≡ all.old.seen.book) × (all.new.seen.log ≡ all.old.seen.log ++ notice.now ∷ [])) }
-{
-    if !all.add(head, notice) {
-        return None;
-    }
-    Some(Entry {
-        notice: *notice,
-        front: all.again(),
-    })
-}
-
 // Takes all notices into both copies.
 fn take_all<J: Naming>(
-    head: &Word<Notice, u64, Law>,
-    all: &mut Front,
+    whole: &mut Whole,
     first: &mut Store,
     second: &mut Store,
     notices: &[Notice],
 ) -> Result<(), AllocError>
-    requires head { head.now ≡ head_of J.book }
-    requires posted { IsPosted J.book first.old × (first.old.front ≡ all.old) × (all.old.seen.log ≡ []) }
+    requires whole { (whole.old.right.history ≡ J.history) × (whole.old.right.notices ≡ []) }
+    requires posted { IsPosted J.history first.old × (first.old.front.mark.notices ≡ []) }
     requires alike { state_of second.old ≡ state_of first.old }
-    ensures { OnOk result (IsPosted J.book first.new × (first.new.front ≡ all.new) × (all.new.seen.log ≡ notices.now) × (state_of second.new ≡ state_of first.new)) }
+    ensures whole { OnOk result ((whole.new.right.history ≡ J.history) × (whole.new.right.notices ≡ notices.now)) }
+    ensures posted { OnOk result (IsPosted J.history first.new × (first.new.front.mark.notices ≡ notices.now)) }
+    ensures alike { OnOk result (state_of second.new ≡ state_of first.new) }
 {
     for notice in notices {
-        let Some(entry) = entered(head, all, notice) else {
+        let Some(front) = whole.add(notice) else {
             return Err(AllocError);
+        };
+        let entry = Entry {
+            notice: *notice,
+            front,
         };
         first.take_in(&entry)?;
         second.take_in(&entry)?;
@@ -241,11 +232,11 @@ fn hand_over<J: Naming>(
 
 // Shows readers all that the writer has.
 fn show<J: Naming, R: Wait>(writer: Publisher<J>, rt: &R) -> (Publisher<J>, Result<(), AllocError>)
-    requires posted { IsPosted J.book writer.desk.shown.value }
-    requires goes_on { GoOn J.book writer.desk.shown.value.front.seen.log (drop writer.behind writer.log.items) }
-    ensures posted { IsPosted J.book result.0.desk.shown.value }
+    requires posted { IsPosted J.history writer.desk.shown.value }
+    requires goes_on { GoOn J.history writer.desk.shown.value.front.mark.notices (drop writer.behind writer.log.items) }
+    ensures posted { IsPosted J.history result.0.desk.shown.value }
     ensures values { MatchResult result.1
-        (λ _. (result.0.desk.shown.value.front.seen.log ≡ writer.desk.shown.value.front.seen.log ++ notices_of (drop writer.behind writer.log.items))
+        (λ _. (result.0.desk.shown.value.front.mark.notices ≡ writer.desk.shown.value.front.mark.notices ++ notices_of (drop writer.behind writer.log.items))
         × (drop result.0.behind result.0.log.items ≡ []))
         (λ _. (result.0.desk.shown.value ≡ writer.desk.shown.value) × (drop result.0.behind result.0.log.items ≡ drop writer.behind writer.log.items)) }
 {

@@ -13,6 +13,7 @@ mod owed;
 mod reader;
 mod rule;
 mod store;
+mod tokens;
 mod told;
 
 pub use board::{Board, is_reader_count};

@@ -35,17 +35,17 @@ impl<J: Naming> Model for BoardReader<J> {
 
     ghost Value = { List Notice × List Notice };
 
-    ghost view = { λ r. (r.seen.seen.log, r.learned.seen.log) };
+    ghost view = { λ r. (r.seen.mark.notices, r.learned.mark.notices) };
 
-    ghost invariant = { λ r. (r.seen.seen.book ≡ J.book) × (r.learned.seen.book ≡ J.book) × IsPrefix r.seen.seen.log r.place.place.me.0.client };
+    ghost invariant = { λ r. (r.seen.mark.history ≡ J.history) × (r.learned.mark.history ≡ J.history) × IsPrefix r.seen.mark.notices r.place.place.me.0.client };
 }
 
 impl<J: Naming> BoardReader<J> {
     pub(crate) fn new(place: Place<J>, start: Front, told: Front) -> BoardReader<J>
-        requires start { (start.seen.book ≡ J.book) × (start.seen.log ≡ []) }
-        requires told { told.seen.book ≡ J.book }
+        requires start { (start.mark.history ≡ J.history) × (start.mark.notices ≡ []) }
+        requires told { told.mark.history ≡ J.history }
         ensures seen { seen result ≡ [] }
-        ensures learned { learned result ≡ told.seen.log }
+        ensures learned { learned result ≡ told.mark.notices }
     {
         BoardReader {
             place,
@@ -124,6 +124,13 @@ impl<J: Naming> BoardReader<J> {
         }
     }
 
+    /// What it saw last. The board covers it, and any reader of the board may learn it.
+    pub fn saw(&self) -> Told<J>
+        ensures { result ≡ seen self.now }
+    {
+        Told::new(self.seen.again())
+    }
+
     /// Learns what the board told. Each later read sees it.
     pub fn learn(&mut self, told: Told<J>)
         ensures seen { seen self.new ≡ seen self.old }
@@ -146,7 +153,7 @@ fn find<J: Naming>(
     key: Key,
 ) -> (Place<J>, Option<(Result<Option<Candidate>, Term>, Front)>)
     ensures { MatchOption result.1 (view result.0.place ≡ view place.place)
-        (λ a. IsWho a.1.seen.log key a.0 × (a.1.seen.book ≡ J.book) × (view result.0.place ≡ a.1.seen.log) × IsPrefix (view place.place) a.1.seen.log) }
+        (λ a. IsWho a.1.mark.notices key a.0 × (a.1.mark.history ≡ J.history) × (view result.0.place ≡ a.1.mark.notices) × IsPrefix (view place.place) a.1.mark.notices) }
 {
     match place.enter_as::<Sees<J>>() {
         Ok(reading) => {
@@ -164,7 +171,7 @@ fn find_latest<J: Naming>(
     group: GroupName,
 ) -> (Place<J>, Option<(Option<(Term, Candidate)>, Front)>)
     ensures { MatchOption result.1 (view result.0.place ≡ view place.place)
-        (λ a. IsLatest (leads_in a.1.seen.log group) a.0 × (a.1.seen.book ≡ J.book) × (view result.0.place ≡ a.1.seen.log) × IsPrefix (view place.place) a.1.seen.log) }
+        (λ a. IsLatest (leads_in a.1.mark.notices group) a.0 × (a.1.mark.history ≡ J.history) × (view result.0.place ≡ a.1.mark.notices) × IsPrefix (view place.place) a.1.mark.notices) }
 {
     match place.enter_as::<Sees<J>>() {
         Ok(reading) => {
@@ -182,7 +189,7 @@ fn find_next<J: Naming>(
     after: Option<GroupName>,
 ) -> (Place<J>, Option<(Option<Decision>, Front)>)
     ensures { MatchOption result.1 (view result.0.place ≡ view place.place)
-        (λ a. IsNext (leads_in a.1.seen.log) after a.0 × (a.1.seen.book ≡ J.book) × (view result.0.place ≡ a.1.seen.log) × IsPrefix (view place.place) a.1.seen.log) }
+        (λ a. IsNext (leads_in a.1.mark.notices) after a.0 × (a.1.mark.history ≡ J.history) × (view result.0.place ≡ a.1.mark.notices) × IsPrefix (view place.place) a.1.mark.notices) }
 {
     match place.enter_as::<Sees<J>>() {
         Ok(reading) => {

@@ -14,7 +14,7 @@ impl<J: Naming> Protocol<Store, [Notice; 0]> for Posted<J> {
     ghost use Rattle.std.specs.Prelude.{[]};
     ghost use Rattle.decision_board.specs.Posts.{Keeps};
 
-    ghost holds = { Keeps J.book };
+    ghost holds = { Keeps J.history };
 
     ghost first = { [] };
 }
@@ -27,5 +27,5 @@ pub struct Sees<J> {
 impl<J: Naming> Outcome<Store, [Notice; 0]> for Sees<J> {
     ghost use Rattle.decision_board.specs.Posts.{Shows};
 
-    ghost then = { Shows J.book };
+    ghost then = { Shows J.history };
 }

@@ -47,8 +47,8 @@ impl Store {
 
     /// The leader for the key; an `Err` is the floor of its group, where the key is below it.
     pub fn who(&self, key: &Key) -> Result<Option<Candidate>, Term>
-        requires { AreOf self.now.leaders self.now.floors self.now.front.seen.log }
-        ensures { IsWho self.now.front.seen.log key.now result }
+        requires { AreOf self.now.leaders self.now.floors self.now.front.mark.notices }
+        ensures { IsWho self.now.front.mark.notices key.now result }
     {
         match self.floors.floor(&key.group) {
             Some(floor) if key.term < floor => Err(floor),
@@ -58,16 +58,16 @@ impl Store {
 
     /// The greatest term of the group with a leader, and that leader.
     pub fn latest(&self, group: &GroupName) -> Option<(Term, Candidate)>
-        requires { AreOf self.now.leaders self.now.floors self.now.front.seen.log }
-        ensures { IsLatest (leads_in self.now.front.seen.log group.now) result }
+        requires { AreOf self.now.leaders self.now.floors self.now.front.mark.notices }
+        ensures { IsLatest (leads_in self.now.front.mark.notices group.now) result }
     {
         self.leaders.latest(group)
     }
 
     /// The first group behind the name that has a leader, with its greatest term and that leader.
     pub fn next(&self, after: Option<GroupName>) -> Option<Decision>
-        requires { AreOf self.now.leaders self.now.floors self.now.front.seen.log }
-        ensures { IsNext (leads_in self.now.front.seen.log) after result }
+        requires { AreOf self.now.leaders self.now.floors self.now.front.mark.notices }
+        ensures { IsNext (leads_in self.now.front.mark.notices) after result }
     {
         self.leaders.next(after)
     }

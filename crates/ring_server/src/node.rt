@@ -66,7 +66,7 @@ pub(crate) fn serve_node<
     requires member { (kept_by site.opened).view.member ≡ A.member }
     requires opening { (kept_by site.opened).opening ≡ A.opening }
     requires opened { (kept_by site.opened).opening.inputs + length (kept_by site.opened).view.state.inputs ≡ A.opened }
-    requires history { site.history ≡ J.book }
+    requires history { site.history ≡ J.history }
     requires accepted { ForAccepted site.blanks A.name A.parts }
     requires tied { ForTie site.blanks A.tied }
 {

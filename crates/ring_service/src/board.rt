@@ -21,7 +21,7 @@ pub fn opened_board<J: Naming>(
     desk: &Desk,
     readers: usize,
 ) -> Result<Board<J>, Refusal>
-    requires history { opened ≡ J.book }
+    requires history { opened ≡ J.history }
     requires readers { (1 ≤ readers) × (readers ≤ DOORS) }
     ensures content { IfOk result (λ board. (past : List Input) → IsPast desk.now.view.member desk.now.opening past
         → IsContent desk.now.view.member.node (durable_in (seen past desk.now).state) (published board)) }

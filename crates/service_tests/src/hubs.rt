@@ -135,7 +135,7 @@ fn on_hub<
     requires none { desk.view.state.checkpoint ≡ None }
     requires inside { IsNodeOf desk.view.member.n desk.view.member.node }
     requires opened { desk.opening.inputs + length desk.view.state.inputs ≡ A.opened }
-    requires history { opened ≡ J.book }
+    requires history { opened ≡ J.history }
     requires accepted { ForAccepted blanks A.name A.parts }
     requires tied { ForTie blanks A.tied }
     requires ready { is_spoiled journal ≡ false }

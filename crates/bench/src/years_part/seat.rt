@@ -48,7 +48,7 @@ impl<V: Device + Drop, J: Naming, A: Node> Station<V, J, A> {
         opened: Opened,
         blanks: Blanks,
     ) -> Result<Station<V, J, A>, Refusal>
-        requires history { opened ≡ J.book }
+        requires history { opened ≡ J.history }
         requires desk { desk.view.member ≡ A.member }
         requires opening { desk.opening ≡ A.opening }
         requires none { desk.view.state.checkpoint ≡ None }

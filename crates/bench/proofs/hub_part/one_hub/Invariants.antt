@@ -17,4 +17,4 @@ ghosts-on_hub-A-Node g a = record {
 -- the history of the board is the one that was begun for it
 
 abbrev pub ghosts-on_hub-J-Naming : goal.ghosts-on_hub-J-Naming
-ghosts-on_hub-J-Naming g a = record { book = a.opened }
+ghosts-on_hub-J-Naming g a = record { history = a.opened }

@@ -2,4 +2,4 @@ use Rattle.board_tests.proofs.calls.first_decisions_and_latest_terms.Given as go
 
 -- the history that was just begun
 abbrev pub ghosts-read_all : goal.ghosts-read_all
-ghosts-read_all g a = record { book = a.opened }
+ghosts-read_all g a = record { history = a.opened }

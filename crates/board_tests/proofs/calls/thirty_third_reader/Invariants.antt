@@ -2,4 +2,4 @@ use Rattle.board_tests.proofs.calls.thirty_third_reader.Given as goal
 
 -- the history that was just begun
 abbrev pub ghosts-fill_places : goal.ghosts-fill_places
-ghosts-fill_places g a = record { book = a.opened }
+ghosts-fill_places g a = record { history = a.opened }

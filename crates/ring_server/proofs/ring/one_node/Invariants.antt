@@ -18,4 +18,4 @@ ghosts-serve_node-A-Node g a = record {
 -- the history of the board is the one that was begun for it
 
 abbrev pub ghosts-serve_node-J-Naming : goal.ghosts-serve_node-J-Naming
-ghosts-serve_node-J-Naming g a = record { book = a.site.history }
+ghosts-serve_node-J-Naming g a = record { history = a.site.history }

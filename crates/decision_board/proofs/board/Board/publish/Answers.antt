@@ -14,11 +14,11 @@ invariant_of-self-in-Ok g c =
     let es : List Entry = drop w.behind w.log.items in
     let order : drop c.self.inside.writer.behind c.self.inside.writer.log.items ++ c.self.inside.waiting.items ≡ es = sym c.hand_over.ensures.order ∙ (ap (λ v. es ++ v) none ∙ append-nil es) in
     let store : c.self.inside.writer.desk.shown.value ≡ w.desk.shown.value = ap (λ d. d.shown.value) (sym c.hand_over.ensures.shown) in
-    let run : IsRunning g.J.Naming.book w.desk.shown.value c.self.inside.all.seen.log es = subst (λ (x : Store). IsRunning g.J.Naming.book x c.self.inside.all.seen.log es) store
-    (subst (IsRunning g.J.Naming.book c.self.inside.writer.desk.shown.value c.self.inside.all.seen.log) order (i.4, i.5, i.6)) in
+    let run : IsRunning g.J.Naming.history w.desk.shown.value c.self.inside.whole.right.notices es = subst (λ (x : Store). IsRunning g.J.Naming.history x c.self.inside.whole.right.notices es) store
+    (subst (IsRunning g.J.Naming.history c.self.inside.writer.desk.shown.value c.self.inside.whole.right.notices) order (i.3, i.4, i.5)) in
     let rest : drop t.behind t.log.items ++ c.hand_over.new.waiting.items ≡ drop t.behind t.log.items = ap (λ v. drop t.behind t.log.items ++ v) none ∙ append-nil _ in
-    let after = running_shown g.J.Naming.book w.desk.shown.value t.desk.shown.value c.self.inside.all.seen.log es
+    let after = running_shown g.J.Naming.history w.desk.shown.value t.desk.shown.value c.self.inside.whole.right.notices es
     (drop t.behind t.log.items) run c.replace_with.ensures.0 c.replace_with.result c.replace_with.ensures.1 in
-    let now : IsRunning g.J.Naming.book t.desk.shown.value c.self.inside.all.seen.log (drop t.behind t.log.items ++ c.hand_over.new.waiting.items) =
-    subst (IsRunning g.J.Naming.book t.desk.shown.value c.self.inside.all.seen.log) (sym rest) after in
-    (i.0, i.1, i.2, i.3, now.0, now.1, now.2)
+    let now : IsRunning g.J.Naming.history t.desk.shown.value c.self.inside.whole.right.notices (drop t.behind t.log.items ++ c.hand_over.new.waiting.items) =
+    subst (IsRunning g.J.Naming.history t.desk.shown.value c.self.inside.whole.right.notices) (sym rest) after in
+    (i.0, i.1, i.2, now.0, now.1, now.2)

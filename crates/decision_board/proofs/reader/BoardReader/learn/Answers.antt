@@ -5,4 +5,4 @@ use Rattle.decision_board.proofs.reader.BoardReader.learn.Goals as goal
 
 pub returns-else-covers-clause-one_history : goal.returns-else-covers-clause-one_history
 returns-else-covers-clause-one_history g c = rw (← c.self.view_is)
-    (subst (λ (l : List Notice). IsPrefix c.self.inside.seen.seen.log l ⊎ IsPrefix l c.self.inside.seen.seen.log) c.into_front-front.ensures.log c.one_history.ensures)
+    (subst (λ (l : List Notice). IsPrefix c.self.inside.seen.mark.notices l ⊎ IsPrefix l c.self.inside.seen.mark.notices) c.into_front-front.ensures.notices c.one_history.ensures)
