@@ -254,7 +254,7 @@ async def holder(ring: AsyncRing, group: str, patience: float = 5.0, *, across_h
 
 
 async def waiters(ring: AsyncRing, group: str, patience: float = 5.0) -> list[Waiter]:
-    """Who waits for the lock of the group on the ring's host, in order."""
+    """Who waits for the lock of the group on the ring's host, in order. `NotListed` where they can't be listed."""
     return await find_waiters(ring, group, patience)
 
 

@@ -18,13 +18,14 @@ from .steps import at_once
 
 
 def holder(ring: Ring, group: str, patience: float = 5.0, *, across_hosts: bool | None = None) -> Holder | None:
-    """Who holds the lock of the group and is seen within `patience` seconds, or None. `across_hosts` is as for a Lock."""
+    """Who holds the lock of the group and is seen within `patience` seconds, or None. `across_hosts` is as for a Lock:
+    `WrongRing` where it is held the other way, or nothing tells whether it is."""
     return at_once(find_holder(ring, group, patience, across_hosts))
 
 
 def waiters(ring: Ring, group: str, patience: float = 5.0) -> list[Waiter]:
     """Who waits for the lock of the group on the ring's host, in order, as its holder's process tells within `patience`
-    seconds; nobody where that does not."""
+    seconds; nobody where that does not. `NotListed` where it is held across hosts, or on another one than this."""
     return at_once(find_waiters(ring, group, patience))
 
 
@@ -35,7 +36,8 @@ class Lock(Locking):
     or the fault of a ring that is away, full or failed; 0 tries once. A try that began has two seconds. Others are told
     `text`, and who waited longest comes next, but the greatest `rank` first. The terms more than `keep` below its own are
     retired. With `give_up` it is lost once no node answered for so many seconds. `on_lost` is called with the lock by a
-    thread of the ring within some two seconds once it is lost, and not where it resigned.
+    thread of the ring within some two seconds once it is lost, and not where it resigned. Where the ring has a `status`
+    it is shown there, half a second late, in a door that all locks of a process at a node share, if another stays free.
 
     `across_hosts`, which is so with a ring of another host where it is not said, its clients may be on several hosts: all
     of them have to say so. The ring's `status` is needed, and a door of each node where this process holds any. A

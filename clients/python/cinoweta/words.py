@@ -160,4 +160,5 @@ def add_keep(parser: argparse.ArgumentParser) -> None:
 def add_status(parser: argparse.ArgumentParser) -> None:
     parser.add_argument("--status", metavar="PORT", default=os.environ.get("CINOWETA_STATUS"),
                         help="that of ringd --status, which may stand behind the ring's host, or CINOWETA_STATUS: where "
-                             "nobody comes to lead, it is asked why, and across hosts who holds a lock")
+                             "nobody comes to lead, it is asked why, and across hosts who holds a lock; one that is "
+                             "held is shown there")
