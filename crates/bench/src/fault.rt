@@ -2,7 +2,6 @@
 use disk_model::{DeviceFault, OpenFault};
 use ring_audit::AuditFault;
 use ring_records::Refusal;
-use script_run::RunFault;
 use sessions::SessionFault;
 use std::alloc::AllocError;
 use std::io;
@@ -44,9 +43,6 @@ pub enum Fault {
     /// A session did not come to its end.
     #[error("session broke off")]
     Session,
-    /// A script did not come to its end.
-    #[error("{0}")]
-    Script(RunFault),
     /// Histories are not those of a run.
     #[error("histories are no run")]
     Histories,
@@ -96,12 +92,6 @@ impl From<AuditFault> for Fault {
             AuditFault::Memory => Fault::Memory,
             AuditFault::Shape | AuditFault::Stuck { .. } => Fault::Histories,
         }
-    }
-}
-
-impl From<RunFault> for Fault {
-    fn from(fault: RunFault) -> Fault {
-        Fault::Script(fault)
     }
 }
 

@@ -16,10 +16,8 @@ mod locked;
 mod node_part;
 mod part;
 mod race;
-mod script_part;
 mod sessions_part;
 mod words;
-mod years_part;
 
 use fault::Fault;
 use part::{PARTS, Part};

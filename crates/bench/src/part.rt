@@ -1,8 +1,8 @@
 // The parts of the service that do works, each in a file of its own.
 use crate::fault::Fault;
 use crate::{
-    audit_part, board_part, core_part, device_part, hub_part, journal_part, node_part, script_part,
-    sessions_part, years_part,
+    audit_part, board_part, core_part, device_part, hub_part, journal_part, node_part,
+    sessions_part,
 };
 use std::env::Args;
 use std::sync::Wait;
@@ -27,14 +27,10 @@ pub enum Part {
     Hub,
     /// Histories of a ring that are audited.
     Audit,
-    /// A script of random lines.
-    Script,
-    /// Rings that elect and retire for long.
-    Years,
 }
 
 /// Each part with its word, and what it is told to do.
-pub const PARTS: [(Part, &str, &str); 10] = [
+pub const PARTS: [(Part, &str, &str); 8] = [
     (Part::Core, "core", "INPUTS | retire TERMS FLOOR"),
     (Part::Device, "device", "BYTES WRITES"),
     (
@@ -59,8 +55,6 @@ pub const PARTS: [(Part, &str, &str); 10] = [
         "memory APPENDERS STANDS HUBS | file APPENDERS STANDS HUBS PATH | bare APPENDS PATH",
     ),
     (Part::Audit, "audit", "ELECTIONS"),
-    (Part::Script, "script", "SEED LINES"),
-    (Part::Years, "years", "ELECTIONS GROUPS"),
 ];
 
 impl Part {
@@ -90,8 +84,6 @@ impl Part {
             Part::Sessions => sessions_part::run(rt, words),
             Part::Hub => hub_part::run(rt, threads, words),
             Part::Audit => audit_part::run(rt, words),
-            Part::Script => script_part::run(rt, words),
-            Part::Years => years_part::run(rt, threads, words),
         }
     }
 }
