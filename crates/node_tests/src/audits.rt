@@ -32,6 +32,20 @@ const THIRD: [Op; 3] = [
     Take(1, Elected("red", 5, 30, 2)),
 ];
 
+/// The second without its last input, and the third without.
+const SECOND_CUT: [Op; 4] = [
+    Stand("red", 5, 30),
+    Take(0, Token("red", 5, 10, 1)),
+    Take(1, Token("red", 5, 20, 3)),
+    Take(2, Token("red", 5, 30, 2)),
+];
+
+const THIRD_CUT: [Op; 2] = [Stand("red", 5, 20), Take(0, Token("red", 5, 30, 2))];
+
+static WHOLE: [&[Op]; 3] = [&FIRST, &SECOND, &THIRD];
+
+static CUT: [&[Op]; 3] = [&FIRST, &SECOND, &THIRD_CUT];
+
 fn history(rt: &impl Abort, alloc: Global, ops: &[Op]) -> Result<Vec<Input>, AllocError> {
     let mut inputs = Vec::new(alloc);
     for op in ops {
@@ -71,41 +85,66 @@ fn is_stuck(rt: &impl Abort, alloc: Global, rows: &[&[Op]], at: u8, place: u64) 
     assert!(rt; steps(alloc, &histories) == Err(AuditFault::Stuck { node, place }));
 }
 
+static WITHOUT_THE_LAST: [&[Op]; 3] = [&FIRST, &SECOND_CUT, &THIRD];
+
 #[test]
 fn an_election_is_one_run(rt: HostRuntime) {
-    has_steps(&rt, rt.alloc(), &[&FIRST, &SECOND, &THIRD], 12);
-    has_steps(&rt, rt.alloc(), &[&FIRST, &SECOND[..4], &THIRD], 11);
+    has_steps(&rt, rt.alloc(), &WHOLE, 12);
+    has_steps(&rt, rt.alloc(), &WITHOUT_THE_LAST, 11);
 }
+
+static FROM_NOBODY: [&[Op]; 2] = [&[], &[Take(0, Token("red", 9, 5, 1))]];
 
 #[test]
 fn what_nobody_sent_is_not_placed(rt: HostRuntime) {
-    let alloc = rt.alloc();
-    is_stuck(&rt, alloc, &[&[], &[Take(0, Token("red", 9, 5, 1))]], 2, 0);
-    is_stuck(&rt, alloc, &[&FIRST, &SECOND, &THIRD[..2]], 1, 3);
+    is_stuck(&rt, rt.alloc(), &FROM_NOBODY, 2, 0);
+    is_stuck(&rt, rt.alloc(), &CUT, 1, 3);
 }
+
+const SWAPPED: [Op; 5] = [
+    Stand("red", 5, 30),
+    Take(1, Token("red", 5, 20, 3)),
+    Take(0, Token("red", 5, 10, 1)),
+    Take(2, Token("red", 5, 30, 2)),
+    Take(3, Elected("red", 5, 30, 2)),
+];
+
+static TOO_EARLY: [&[Op]; 3] = [&FIRST, &SWAPPED, &THIRD];
 
 #[test]
 fn what_was_sent_later_is_not_placed(rt: HostRuntime) {
-    let swapped = [SECOND[0], SECOND[2], SECOND[1], SECOND[3], SECOND[4]];
-    is_stuck(&rt, rt.alloc(), &[&FIRST, &swapped, &THIRD], 1, 3);
+    is_stuck(&rt, rt.alloc(), &TOO_EARLY, 1, 3);
 }
+
+const ANOTHER: [Op; 3] = [
+    Stand("red", 5, 20),
+    Take(0, Token("red", 5, 31, 2)),
+    Take(1, Elected("red", 5, 30, 2)),
+];
+
+static OF_ANOTHER_BID: [&[Op]; 3] = [&FIRST, &SECOND, &ANOTHER];
 
 #[test]
 fn another_message_is_not_placed(rt: HostRuntime) {
-    let another = [
-        Stand("red", 5, 20),
-        Take(0, Token("red", 5, 31, 2)),
-        Take(1, Elected("red", 5, 30, 2)),
-    ];
-    is_stuck(&rt, rt.alloc(), &[&FIRST, &SECOND, &another], 1, 2);
+    is_stuck(&rt, rt.alloc(), &OF_ANOTHER_BID, 1, 2);
 }
+
+const CREDITED: [Op; 5] = [
+    Stand("red", 5, 10),
+    Take(0, Token("red", 5, 20, 3)),
+    Take(1, Token("red", 5, 30, 2)),
+    Take(2, Elected("red", 5, 30, 2)),
+    Acked(4),
+];
+
+static NOT_TAKEN: [&[Op]; 3] = [&CREDITED, &SECOND_CUT, &THIRD];
+
+static TAKEN: [&[Op]; 3] = [&CREDITED, &SECOND, &THIRD];
 
 #[test]
 fn more_is_not_credited_than_was_taken(rt: HostRuntime) {
-    let alloc = rt.alloc();
-    let early = [FIRST[0], FIRST[1], FIRST[2], FIRST[3], Acked(4)];
-    is_stuck(&rt, alloc, &[&early, &SECOND[..4], &THIRD], 1, 4);
-    has_steps(&rt, alloc, &[&early, &SECOND, &THIRD], 13);
+    is_stuck(&rt, rt.alloc(), &NOT_TAKEN, 1, 4);
+    has_steps(&rt, rt.alloc(), &TAKEN, 13);
 }
 
 /// So many histories of no inputs.
@@ -117,16 +156,19 @@ fn empty(rt: &impl Abort, alloc: Global, count: usize) -> Vec<Vec<Input>> {
     all
 }
 
+/// How many histories there are, and whether they are those of a ring.
+static SHAPES: [(usize, bool); 5] = [(0, false), (1, false), (2, true), (16, true), (17, false)];
+
 #[test]
 fn rings_have_two_to_sixteen_histories(rt: HostRuntime) {
-    for (count, expected) in [
-        (0, Err(AuditFault::Shape)),
-        (1, Err(AuditFault::Shape)),
-        (2, Ok(0)),
-        (16, Ok(0)),
-        (17, Err(AuditFault::Shape)),
-    ] {
+    for row in &SHAPES {
+        let (count, is_ring) = *row;
         let histories = empty(&rt, rt.alloc(), count);
+        let expected = if is_ring {
+            Ok(0)
+        } else {
+            Err(AuditFault::Shape)
+        };
         assert!(rt; steps(rt.alloc(), &histories) == expected);
     }
 }

@@ -139,15 +139,18 @@ fn is_credited(rt: &impl Abort, alloc: Global, link: &mut Outlink, end: u32, upt
     shows(rt, &restored(rt, alloc, link), upto, end);
 }
 
+/// How many are sent by then, and the credit that comes then.
+static SENT: [(u32, u32); 7] = [(5, 1), (5, 2), (5, 3), (6, 4), (9, 8), (9, 9), (12, 10)];
+
 #[test]
 fn the_window_begins_at_the_credit(rt: HostRuntime) {
     let mut link = Outlink::new(rt.alloc());
     shows(&rt, &link, 0, 0);
     link.reserve(64).expect(&rt, "ample memory");
     shows(&rt, &link, 0, 0);
-    // How many are sent by then, and the credit that comes then.
     let mut sent = 0;
-    for (end, upto) in [(5, 1), (5, 2), (5, 3), (6, 4), (9, 8), (9, 9), (12, 10)] {
+    for row in &SENT {
+        let (end, upto) = *row;
         queue(&rt, &mut link, sent, end);
         sent = end;
         is_credited(&rt, rt.alloc(), &mut link, end, upto);

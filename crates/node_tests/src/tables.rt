@@ -6,6 +6,9 @@ use ring_records::{GroupName, Key, Msg, Term};
 use std::process::Abort;
 use test_rows::Note::{self, Elected, Token};
 
+/// Keys beside red 5.
+static BESIDE: [(&str, u32); 4] = [("red", 4), ("red", 6), ("re", 5), ("redd", 5)];
+
 #[test]
 fn a_stand_touches_one_key(rt: HostRuntime) {
     let (red, own) = (key(&rt, "red", 5), bid(&rt, 30));
@@ -28,8 +31,8 @@ fn a_stand_touches_one_key(rt: HostRuntime) {
     assert!(rt; table.ballot(&red) == Some(kept));
     assert!(rt; table.who(&red).is_none());
     assert!(rt; table.stands() == 1);
-    for (group, term) in [("red", 4), ("red", 6), ("re", 5), ("redd", 5)] {
-        assert!(rt; table.ballot(&key(&rt, group, term)).is_none());
+    for row in &BESIDE {
+        assert!(rt; table.ballot(&key(&rt, row.0, row.1)).is_none());
     }
 }
 
@@ -80,6 +83,16 @@ fn the_latest_is_of_the_greatest_term(rt: HostRuntime) {
     assert!(rt; copy.latest(&red.group) == table.latest(&red.group));
 }
 
+/// One key that is relayed alone, and two with leaders.
+static KNOWN: [Note; 3] = [
+    Token("blu", 1, 7, 1),
+    Elected("red", 9, 90, 3),
+    Elected("red", 5, 30, 3),
+];
+
+/// Keys that a table knows, and one that it does not.
+static LOOKED_AT: [(&str, u32); 4] = [("red", 5), ("red", 9), ("blu", 1), ("blu", 2)];
+
 #[test]
 fn a_table_is_restored_from_what_it_knows(rt: HostRuntime) {
     let alloc = rt.alloc();
@@ -88,13 +101,8 @@ fn a_table_is_restored_from_what_it_knows(rt: HostRuntime) {
     if table.ballot(&red).is_none() {
         table.stand(red, bid(&rt, 30)).expect(&rt, "ample memory");
     }
-    // One key that is relayed alone, and two with leaders.
-    for note in [
-        Token("blu", 1, 7, 1),
-        Elected("red", 9, 90, 3),
-        Elected("red", 5, 30, 3),
-    ] {
-        table.hear(&msg(&rt, note)).expect(&rt, "ample memory");
+    for note in &KNOWN {
+        table.hear(&msg(&rt, *note)).expect(&rt, "ample memory");
     }
     let states = table.key_states(alloc).expect(&rt, "ample memory");
     assert!(rt; states.len() == 3);
@@ -103,8 +111,8 @@ fn a_table_is_restored_from_what_it_knows(rt: HostRuntime) {
     let other = Table::restore(alloc, node(&rt, 2), &states, 1, &floors);
     let other = other.expect(&rt, "ample memory");
     assert!(rt; other.stands() == 1);
-    for (group, term) in [("red", 5), ("red", 9), ("blu", 1), ("blu", 2)] {
-        let key = key(&rt, group, term);
+    for row in &LOOKED_AT {
+        let key = key(&rt, row.0, row.1);
         assert!(rt; other.ballot(&key) == table.ballot(&key));
         assert!(rt; other.latest(&key.group) == table.latest(&key.group));
     }

@@ -2,17 +2,9 @@
 #![tactic(auto)]
 
 #[cfg(test)]
-mod admission;
-#[cfg(test)]
-mod answers;
-#[cfg(test)]
-mod elections;
-#[cfg(test)]
 mod growths;
 #[cfg(test)]
 mod records;
-#[cfg(test)]
-mod releases;
 #[cfg(test)]
 mod rows;
 #[cfg(test)]
@@ -21,3 +13,5 @@ mod snapshots;
 mod texts;
 #[cfg(test)]
 mod values;
+#[cfg(test)]
+mod worked;

@@ -1,15 +1,11 @@
 // What rows name, as values.
-use ring_records::{Bid, Candidate, Input, Key, Msg, NodeNo};
+use ring_records::{Bid, Candidate, Input, Key, Msg};
 use std::alloc::Global;
 use std::process::Abort;
 use test_rows::{Note, Op};
 
 pub fn bid(rt: &impl Abort, number: u32) -> Bid {
     Bid::new(number).expect(rt, "a bid")
-}
-
-pub fn node(rt: &impl Abort, number: u8) -> NodeNo {
-    NodeNo::new(number).expect(rt, "a node")
 }
 
 pub fn key(rt: &impl Abort, group: &str, term: u32) -> Key {
@@ -23,14 +19,6 @@ pub fn candidate(rt: &impl Abort, numbers: (u32, u8)) -> Candidate {
 
 pub fn input(rt: &impl Abort, op: Op) -> Input {
     op.input().expect(rt, "an input")
-}
-
-pub fn inputs(rt: &impl Abort, alloc: Global, ops: &[Op]) -> Vec<Input> {
-    let mut inputs = Vec::new(alloc);
-    for op in ops {
-        inputs.push(input(rt, *op)).expect(rt, "ample memory");
-    }
-    inputs
 }
 
 pub fn messages(rt: &impl Abort, alloc: Global, notes: &[Note]) -> Vec<Msg> {

@@ -1,5 +1,5 @@
 // Audits of which a growth is refused.
-use super::{FIRST, SECOND, THIRD, built, steps};
+use super::{CUT, FIRST, WHOLE, built, steps};
 use crate::rows::node;
 use ring_audit::AuditFault;
 use ring_records::Input;
@@ -32,17 +32,19 @@ fn comes_at_last(
 
 #[test]
 fn refused_growths(rt: HostRuntime) {
-    comes_at_last(&rt, rt.alloc(), &[&FIRST, &SECOND, &THIRD], Ok(12));
+    comes_at_last(&rt, rt.alloc(), &WHOLE, Ok(12));
 }
 
 #[test]
 fn refused_growths_where_inputs_are_stuck(rt: HostRuntime) {
     let (node, place) = (node(&rt, 1), 3);
     let stuck = AuditFault::Stuck { node, place };
-    comes_at_last(&rt, rt.alloc(), &[&FIRST, &SECOND, &THIRD[..2]], Err(stuck));
+    comes_at_last(&rt, rt.alloc(), &CUT, Err(stuck));
 }
+
+static ALONE: [&[Op]; 1] = [&FIRST];
 
 #[test]
 fn refused_growths_of_one_history(rt: HostRuntime) {
-    comes_at_last(&rt, rt.alloc(), &[&FIRST], Err(AuditFault::Shape));
+    comes_at_last(&rt, rt.alloc(), &ALONE, Err(AuditFault::Shape));
 }

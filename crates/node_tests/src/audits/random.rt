@@ -1,9 +1,9 @@
 // Random runs of three nodes, audited; and, with one input changed, beside a plain placement.
-use super::{empty, steps};
+use super::steps;
 use crate::rows::{bid, candidate, key, node};
-use look_back::{refusal, sent, taken};
+use node_core::NodeCore;
 use ring_audit::AuditFault;
-use ring_records::{Base, Input, Msg, NodeNo};
+use ring_records::{Input, Msg, NodeNo, Packet};
 use std::alloc::Global;
 use std::process::Abort;
 
@@ -44,7 +44,7 @@ fn neighbours(rt: &impl Abort, me: NodeNo) -> (NodeNo, NodeNo) {
     }
 }
 
-/// The place of the node's history, of three.
+/// The place of the node, of three.
 fn place_of(me: NodeNo) -> usize {
     match me.number() {
         1 => 0,
@@ -53,74 +53,90 @@ fn place_of(me: NodeNo) -> usize {
     }
 }
 
-/// The inputs of the node.
-fn front<'a>(rt: &impl Abort, fronts: &'a [Vec<Input>], me: NodeNo) -> &'a [Input] {
-    fronts.get(place_of(me)).expect(rt, "a node")
+/// How far a node went: what it knows, what it accepted, and all that it sent.
+#[derive(Drop)]
+struct Front {
+    core: NodeCore,
+    inputs: Vec<Input>,
+    sent: Vec<Msg>,
 }
 
-fn add(rt: &impl Abort, fronts: &mut Vec<Vec<Input>>, me: NodeNo, input: Input) {
-    let front = fronts.get_mut(place_of(me)).expect(rt, "a node");
-    front.extend_from_slice(&[input]).expect(rt, "ample memory");
-}
-
-/// What node `me` sent by its inputs, and what it took.
-fn sent_by(rt: &impl Abort, alloc: Global, fronts: &[Vec<Input>], me: NodeNo) -> Vec<Msg> {
-    sent(alloc, me, front(rt, fronts, me)).expect(rt, "ample memory")
-}
-
-fn taken_by(rt: &impl Abort, alloc: Global, fronts: &[Vec<Input>], me: NodeNo) -> Vec<Msg> {
-    taken(alloc, front(rt, fronts, me)).expect(rt, "ample memory")
-}
-
-/// Whether the neighbours of the node have what the input says of them.
-fn is_carried(
-    rt: &impl Abort,
-    alloc: Global,
-    fronts: &[Vec<Input>],
-    me: NodeNo,
-    input: &Input,
-) -> bool {
-    let (before, after) = neighbours(rt, me);
-    match input {
-        Input::Stand { .. } | Input::Retire { .. } => true,
-        Input::Take { no, msg } => {
-            sent_by(rt, alloc, fronts, before).get(*no as usize) == Some(msg)
+impl Front {
+    /// The node has accepted nothing.
+    fn new(rt: &impl Abort, alloc: Global, number: u8) -> Front {
+        Front {
+            core: NodeCore::new(alloc, node(rt, number), 3, CAPACITY),
+            inputs: Vec::new(alloc),
+            sent: Vec::new(alloc),
         }
-        Input::Acked { upto } => *upto <= taken_by(rt, alloc, fronts, after).len() as u64,
+    }
+
+    /// Accepts the input, where it is admitted.
+    fn accept(&mut self, rt: &impl Abort, input: Input) {
+        if self.core.admit(&input).is_ok() {
+            let effects = self.core.apply(input).expect(rt, "ample memory");
+            self.inputs.push(input).expect(rt, "ample memory");
+            if let Some(Packet::Carry { msg, .. }) = effects.carry {
+                self.sent.push(msg).expect(rt, "ample memory");
+            }
+        }
     }
 }
 
-/// Whether the input may follow behind these.
-fn follows(
-    rt: &impl Abort,
-    alloc: Global,
-    fronts: &[Vec<Input>],
-    me: NodeNo,
-    input: &Input,
-) -> bool {
-    let history = front(rt, fronts, me);
-    refusal(me, 3, CAPACITY, &Base::fresh(), history, input).is_none()
-        && is_carried(rt, alloc, fronts, me, input)
+/// Three nodes that have accepted nothing.
+fn begun(rt: &impl Abort, alloc: Global) -> Vec<Front> {
+    let mut fronts = Vec::new(alloc);
+    for number in 1..4 {
+        let front = Front::new(rt, alloc, number);
+        fronts.push(front).expect(rt, "ample memory");
+    }
+    fronts
+}
+
+/// What the nodes accepted.
+fn histories(rt: &impl Abort, alloc: Global, fronts: &[Front]) -> Vec<Vec<Input>> {
+    let mut histories = Vec::new(alloc);
+    for front in fronts {
+        let inputs = front.inputs.clone().expect(rt, "ample memory");
+        histories.push(inputs).expect(rt, "ample memory");
+    }
+    histories
+}
+
+fn node_at<'a>(rt: &impl Abort, fronts: &'a [Front], me: NodeNo) -> &'a Front {
+    fronts.get(place_of(me)).expect(rt, "a node")
+}
+
+/// Whether the neighbours of the node have what the input says of them.
+fn is_carried(rt: &impl Abort, fronts: &[Front], me: NodeNo, input: &Input) -> bool {
+    let (before, after) = neighbours(rt, me);
+    match input {
+        Input::Stand { .. } | Input::Retire { .. } => true,
+        Input::Take { no, msg } => node_at(rt, fronts, before).sent.get(*no as usize) == Some(msg),
+        Input::Acked { upto } => *upto <= node_at(rt, fronts, after).core.taken(),
+    }
+}
+
+/// The node accepts the input, where it may follow behind these.
+fn follow(rt: &impl Abort, fronts: &mut Vec<Front>, me: NodeNo, input: Input) {
+    if is_carried(rt, fronts, me, &input) {
+        let front = fronts.get_mut(place_of(me)).expect(rt, "a node");
+        front.accept(rt, input);
+    }
 }
 
 /// An input that the node may try behind these: a Stand, its next Take, or a credit.
-fn try_out(
-    rt: &impl Abort,
-    alloc: Global,
-    dice: &mut Dice,
-    fronts: &[Vec<Input>],
-    me: NodeNo,
-) -> Option<Input> {
+fn try_out(rt: &impl Abort, dice: &mut Dice, fronts: &[Front], me: NodeNo) -> Option<Input> {
     let (before, after) = neighbours(rt, me);
     match dice.roll() % 5 {
         0 => Some(stand(rt, dice)),
         1 => {
-            let upto = taken_by(rt, alloc, fronts, after).len() as u64;
+            let upto = node_at(rt, fronts, after).core.taken();
             Some(Input::Acked { upto })
         }
         _ => {
-            let no = taken_by(rt, alloc, fronts, me).len() as u64;
-            let msg = *sent_by(rt, alloc, fronts, before).get(no as usize)?;
+            let no = node_at(rt, fronts, me).core.taken();
+            let msg = *node_at(rt, fronts, before).sent.get(no as usize)?;
             Some(Input::Take { no, msg })
         }
     }
@@ -135,18 +151,16 @@ fn stand(rt: &impl Abort, dice: &mut Dice) -> Input {
     Input::Stand { key, bid }
 }
 
-/// The histories of three nodes, one input after the other, by chance.
+/// Three nodes that accept one input after the other, by chance.
 fn grown(rt: &impl Abort, alloc: Global, dice: &mut Dice) -> Vec<Vec<Input>> {
-    let mut fronts = empty(rt, alloc, 3);
+    let mut fronts = begun(rt, alloc);
     for _ in 0..80 {
         let me = chosen(rt, dice);
-        if let Some(input) = try_out(rt, alloc, dice, &fronts, me) {
-            if follows(rt, alloc, &fronts, me, &input) {
-                add(rt, &mut fronts, me, input);
-            }
+        if let Some(input) = try_out(rt, dice, &fronts, me) {
+            follow(rt, &mut fronts, me, input);
         }
     }
-    fronts
+    histories(rt, alloc, &fronts)
 }
 
 /// Another input in place of this one.
@@ -172,29 +186,26 @@ fn changed(rt: &impl Abort, dice: &mut Dice, input: &Input) -> Input {
     }
 }
 
+/// The history of the node.
+fn history<'a>(rt: &impl Abort, histories: &'a [Vec<Input>], me: NodeNo) -> &'a [Input] {
+    histories.get(place_of(me)).expect(rt, "a node")
+}
+
 /// Places the next input of the node, where it may follow.
-fn place(
-    rt: &impl Abort,
-    alloc: Global,
-    histories: &[Vec<Input>],
-    fronts: &mut Vec<Vec<Input>>,
-    me: NodeNo,
-) {
-    let placed = front(rt, fronts, me).len();
-    if let Some(input) = front(rt, histories, me).get(placed) {
-        if follows(rt, alloc, fronts, me, input) {
-            add(rt, fronts, me, *input);
-        }
+fn place(rt: &impl Abort, histories: &[Vec<Input>], fronts: &mut Vec<Front>, me: NodeNo) {
+    let placed = node_at(rt, fronts, me).inputs.len();
+    if let Some(input) = history(rt, histories, me).get(placed) {
+        follow(rt, fronts, me, *input);
     }
 }
 
 /// The inputs of the histories that can be placed, in 80 rounds.
-fn placed(rt: &impl Abort, alloc: Global, histories: &[Vec<Input>]) -> Vec<Vec<Input>> {
-    let mut fronts = empty(rt, alloc, 3);
+fn placed(rt: &impl Abort, alloc: Global, histories: &[Vec<Input>]) -> Vec<Front> {
+    let mut fronts = begun(rt, alloc);
     for _ in 0..80 {
-        place(rt, alloc, histories, &mut fronts, node(rt, 1));
-        place(rt, alloc, histories, &mut fronts, node(rt, 2));
-        place(rt, alloc, histories, &mut fronts, node(rt, 3));
+        place(rt, histories, &mut fronts, node(rt, 1));
+        place(rt, histories, &mut fronts, node(rt, 2));
+        place(rt, histories, &mut fronts, node(rt, 3));
     }
     fronts
 }
@@ -205,8 +216,8 @@ fn verdict(rt: &impl Abort, alloc: Global, histories: &[Vec<Input>]) -> Result<u
     let mut count: usize = 0;
     for number in 1..4 {
         let node = node(rt, number);
-        let placed = front(rt, &fronts, node).len();
-        if placed < front(rt, histories, node).len() {
+        let placed = node_at(rt, &fronts, node).inputs.len();
+        if placed < history(rt, histories, node).len() {
             let place = placed as u64;
             return Err(AuditFault::Stuck { node, place });
         }

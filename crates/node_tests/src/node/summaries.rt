@@ -53,44 +53,42 @@ fn judge_alike(rt: &impl Abort, core: &NodeCore, other: &NodeCore) {
     }
 }
 
+/// Keys of these histories, and of none.
+static LOOKED_AT: [(&str, u32); 4] = [("red", 5), ("red", 4), ("blue", 1), ("green", 1)];
+
 /// Both show the same; of its capacity the restored one has taken the bytes of the snapshot.
 fn show_alike(rt: &impl Abort, core: &NodeCore, other: &NodeCore) {
     let (mut here, there) = (counts(core), counts(other));
     here.1 = core.summary_len();
     assert!(rt; here == there);
     assert!(rt; core.window() == other.window());
-    for (group, term) in [("red", 5), ("red", 4), ("blue", 1), ("green", 1)] {
-        let key = key(rt, group, term);
+    for row in &LOOKED_AT {
+        let key = key(rt, row.0, row.1);
         assert!(rt; core.who(&key) == other.who(&key));
         assert!(rt; core.latest(&key.group) == other.latest(&key.group));
     }
 }
 
 /// A restored node accepts the input too, and brings the same. From then on its snapshot stands for all its inputs.
-fn accepts_alike(rt: &impl Abort, alloc: Global, rig: &mut Rig, op: Op) {
+fn accepts_alike(rt: &impl Abort, alloc: Global, core: &mut NodeCore, op: Op) {
     let input = input(rt, op);
-    let bytes = snapshot(rt, alloc, &rig.core);
+    let bytes = snapshot(rt, alloc, core);
     let mut other = restored(rt, alloc, 65_536, &bytes);
-    show_alike(rt, &rig.core, &other);
-    judge_alike(rt, &rig.core, &other);
-    let effects = rig.accept(rt, input);
+    show_alike(rt, core, &other);
+    judge_alike(rt, core, &other);
+    let effects = accept(rt, core, input);
     assert!(rt; accept(rt, &mut other, input) == effects);
-    assert!(rt; snapshot(rt, alloc, &other) == snapshot(rt, alloc, &rig.core));
+    assert!(rt; snapshot(rt, alloc, &other) == snapshot(rt, alloc, core));
     assert!(rt; other.used() == (bytes.len() as u64 + input.cost() as u64));
     other.rebase(2);
-    show_alike(rt, &rig.core, &other);
-}
-
-fn accept(rt: &impl Abort, core: &mut NodeCore, input: Input) -> Result<Effects, Refusal> {
-    core.admit(&input)?;
-    Ok(core.apply(input).expect(rt, "ample memory"))
+    show_alike(rt, core, &other);
 }
 
 /// Each input of the history finds a node that is restored from its summary as good as the first one.
 fn goes_on(rt: &impl Abort, alloc: Global, ops: &[Op]) {
-    let mut rig = Rig::new(rt, alloc, 3, 65_536);
+    let mut core = fresh(rt, alloc, 3, 65_536);
     for op in ops {
-        accepts_alike(rt, alloc, &mut rig, *op);
+        accepts_alike(rt, alloc, &mut core, *op);
     }
 }
 
@@ -146,12 +144,12 @@ static LENGTHS: [(Op, u64); 9] = [
 
 #[test]
 fn a_snapshot_has_the_bytes_of_its_keys_and_its_window(rt: HostRuntime) {
-    let mut rig = Rig::new(&rt, rt.alloc(), 3, 65_536);
-    assert!(rt; rig.core.summary_len() == 42);
+    let mut core = fresh(&rt, rt.alloc(), 3, 65_536);
+    assert!(rt; core.summary_len() == 42);
     for row in &LENGTHS {
         let (op, len) = *row;
-        rig.accept_all(&rt, &[op]);
-        assert!(rt; rig.core.summary_len() == len);
+        accept_all(&rt, &mut core, &[op]);
+        assert!(rt; core.summary_len() == len);
     }
 }
 
@@ -164,8 +162,8 @@ fn takes(rt: &impl Abort, alloc: Global, capacity: u32, bytes: &[u8], refused: O
 
 #[test]
 fn a_snapshot_takes_its_bytes_of_the_capacity(rt: HostRuntime) {
-    let rig = Rig::after(&rt, rt.alloc(), 3, 65_536, &[Stand("red", 5, 30)]);
-    let bytes = snapshot(&rt, rt.alloc(), &rig.core);
+    let core = after(&rt, rt.alloc(), 3, 65_536, &[Stand("red", 5, 30)]);
+    let bytes = snapshot(&rt, rt.alloc(), &core);
     takes(&rt, rt.alloc(), 68, &bytes, Some(Refusal::Full));
     takes(&rt, rt.alloc(), 84, &bytes, Some(Refusal::Full));
     takes(&rt, rt.alloc(), 85, &bytes, None);
@@ -240,8 +238,8 @@ fn has_room(rt: &impl Abort, alloc: Global, bytes: &[u8], case: &Case) {
 // snapshot behind it has to fit in, and an area has to be left for it.
 #[test]
 fn a_floor_has_room_in_earlier_layouts(rt: HostRuntime) {
-    let rig = Rig::after(&rt, rt.alloc(), 3, 65_536, &WON);
-    let bytes = snapshot(&rt, rt.alloc(), &rig.core);
+    let core = after(&rt, rt.alloc(), 3, 65_536, &WON);
+    let bytes = snapshot(&rt, rt.alloc(), &core);
     for case in &ROOMS {
         has_room(&rt, rt.alloc(), &bytes, case);
     }

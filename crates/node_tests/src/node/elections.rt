@@ -1,11 +1,5 @@
 // Elections, with what each node sends and knows worked out by hand.
-use crate::rows::{bid, candidate, input, inputs, key, messages, node};
-use look_back::{credit, emit, latest, leader, refusal, sent, stands, stood, taken, touched};
-use ring_records::{Base, Input, NodeNo};
-use std::alloc::Global;
-use std::process::Abort;
-use test_rows::Note::{self, Elected, Token};
-use test_rows::Op::{self, Acked, Stand, Take};
+use super::*;
 
 /// An election: the size of its ring, its group and term, the bid and the node of its winner, and what comes of each node.
 struct Election {
@@ -19,35 +13,14 @@ struct Election {
 /// A node, its inputs, and the messages that it has sent at the end.
 type Course = (u8, &'static [Op], &'static [Note]);
 
-/// Each input is admitted after those before it.
-fn is_admitted(rt: &impl Abort, me: NodeNo, n: u8, history: &[Input]) {
-    for (place, input) in history.iter().enumerate() {
-        let refused = refusal(me, n, 65536, &Base::fresh(), &history[..place], input);
-        assert!(rt; refused.is_none(), "input {place} at node {me}");
-    }
-}
-
-/// The node has sent these messages.
-fn has_sent(rt: &impl Abort, alloc: Global, me: NodeNo, history: &[Input], notes: &[Note]) {
-    let want = messages(rt, alloc, notes);
-    let told = sent(alloc, me, history).expect(rt, "ample memory");
-    assert!(rt; told.as_slice() == want.as_slice(), "sent by node {me}");
-}
-
-/// Each input of the node is admitted after those before it, and at the end it has sent this and knows the winner.
+/// The node admits each of its inputs, and at the end it has sent this and knows the winner.
 fn follows(rt: &impl Abort, alloc: Global, election: &Election, course: &Course) {
     let (number, ops, notes) = *course;
-    let me = node(rt, number);
-    let history = inputs(rt, alloc, ops);
-    is_admitted(rt, me, election.n, &history);
-    has_sent(rt, alloc, me, &history, notes);
+    let mut core = NodeCore::new(alloc, node(rt, number), election.n, 65_536);
+    accept_all(rt, &mut core, ops);
+    has_window(rt, &core, notes);
     let key = key(rt, election.group, election.term);
-    let leads = leader(me, &history, &key);
-    let winner = candidate(rt, election.winner);
-    assert!(rt; leads == Some(winner), "leader at node {me}");
-    let last = latest(me, &history, &key.group);
-    let greatest = (key.term, candidate(rt, election.winner));
-    assert!(rt; last == Some(greatest), "latest at node {me}");
+    knows(rt, &core, &key, Some(election.winner));
 }
 
 /// Each node follows its course.
@@ -208,29 +181,4 @@ static GREATEST_LAST: Election = Election {
 #[test]
 fn elects_the_greatest_candidate(rt: HostRuntime) {
     elects(&rt, rt.alloc(), &GREATEST_LAST);
-}
-
-const OWN: Op = Stand("blue", 1, 3);
-
-static COUNTED: [Op; 4] = [Take(0, FIRST), OWN, Acked(1), Acked(2)];
-
-#[test]
-fn counts_what_is_in_a_history(rt: HostRuntime) {
-    let (alloc, me) = (rt.alloc(), node(&rt, 2));
-    let (red, blue) = (key(&rt, "red", 5), key(&rt, "blue", 1));
-    let history = inputs(&rt, alloc, &COUNTED);
-    assert!(rt; touched(&history, &red));
-    assert!(rt; !touched(&history, &key(&rt, "red", 6)));
-    assert!(rt; stood(&history, &red).is_none());
-    assert!(rt; stood(&history, &blue) == Some(bid(&rt, 3)));
-    assert!(rt; (stands(&history), credit(&history)) == (1, 2));
-    let before = inputs(&rt, alloc, &COUNTED[..2]);
-    assert!(rt; credit(&before) == 0);
-    let received = taken(alloc, &history).expect(&rt, "ample memory");
-    let want = messages(&rt, alloc, &[FIRST]);
-    assert!(rt; received.as_slice() == want.as_slice());
-    let emitted = emit(me, &history, &input(&rt, OWN));
-    let token = Token("blue", 1, 3, 2).msg().expect(&rt, "a message");
-    assert!(rt; emitted == Some(token));
-    assert!(rt; latest(me, &history, &red.group).is_none());
 }
