@@ -1,5 +1,5 @@
 # run: an example, before any proof. test: the names in the documents, and the merge gate. wrong_bodies: the wrong bodies that the gate does not try, those too that a test has to refuse, of CRATES or of all.
-# rows: crates/console_rows/stdin, played by what is not proved, and written with what is printed now.
+# rows: the stdin of each crate that is named *_rows, played by what is not proved, and written with what is printed now.
 # docs: bin/promises.md, each promise and each wrong body, by the sources.
 # bin/NAME: a proved program. bench: the times of ringctl and of the works of bench.
 # ringd: bin/ringd. serve: runs ringd on examples/ring.toml, unproved where bin/ringd is not built.
@@ -32,19 +32,23 @@
 .PHONY: ringd install serve fencing clients picture pictures kills years earlier load short threads scrapes writeback syncs fuzz faults growths hangs flips
 .PHONY: starts docs unit copies alerts deb runbook full uses hosts turns
 
+ROWS = $(patsubst %/stdin,%,$(wildcard crates/*_rows/stdin))
+
 run:
 	@bench/try.sh examples/first_election.ring
 
 test:
-	@cmp crates/console_rows/stdin crates/console_rows/stdout
+	@for rows in $(ROWS); do cmp $$rows/stdin $$rows/stdout || exit 1; done
 	@docs/check.py
 	@must_not_compile/run.py
 	@rt ci
 
 rows:
 	@mkdir -p bin
-	@cd crates/console_rows && rt try < stdin > ../../bin/rows.txt
-	@tee crates/console_rows/stdin crates/console_rows/stdout < bin/rows.txt > /dev/null
+	@for rows in $(ROWS); do \
+	  (cd $$rows && rt try < stdin) > bin/rows.txt || exit 1; \
+	  tee $$rows/stdin $$rows/stdout < bin/rows.txt > /dev/null; \
+	done
 
 docs:
 	@mkdir -p bin
