@@ -4,7 +4,7 @@
 Gives the programs what nobody would give them, and holds what they do against models that share nothing with the proofs. Each KIND is
 tried for N seconds, 10 by default, side by side; all of them where none is named:
 
-  scripts   scripts for ringctl, each printed line worked out by pictures/run.py
+  scripts   scripts for ringctl, of which some are rows of the gate with lines changed; each printed line worked out by pictures/run.py
   sessions  lines for a ring of ringd, also cut, long and joined, against docs/SESSIONS.md
   settings  settings, against Python's tomllib and the order of faults in docs/OPERATING.md
   words     the words of ringd

@@ -1,4 +1,5 @@
 """Scripts, over bin/ringctl: each printed line is worked out by pictures/run.py, with faults and limits by the models beside this."""
+import pathlib
 import random
 
 import bounded
@@ -117,7 +118,9 @@ class Scripts(Kind):
         elif kind < 0.09:
             # A node keeps its inputs in memory, so that many nodes of an age take more than a program may.
             case[at:at] = years(rng, nodes, 300 if kind < 0.064 and nodes <= 3 else 12, b"lazy" in first)
-        elif kind < 0.093:
+        elif kind < 0.15:
+            case = seeded(rng)
+        elif kind < 0.153:
             case += [b"#" * 10_000 + b"\n"] * 99 + [b"#" * (MOST - sum(map(len, case)) - 990_099 + rng.choice([-1, 0, 1, 2]))]
         return case
 
@@ -138,10 +141,23 @@ class Scripts(Kind):
         return None
 
 
+# The scripts of the gate's rows.
+ROWS = [[line + b"\n" for line in row.splitlines() if not line.startswith((b"  ", b"# "))]
+        for row in (pathlib.Path(__file__).resolve().parents[2] / "crates/console_rows/stdin").read_bytes().split(b"\n\n")]
 GROUPS = [b"red", b"red", b"blue", b"a", b"red-2", b"abcdefghijklmnop"]
 ODD = [b"0", b"00000000001", b"0000000001", b"1", b"17", b"16", b"999999999", b"1000000000", b"9999999999", b"10000000000", b"4294967297",
        b"-1", b"+1", b"1.", b"", b"red", b"Red", b"-red", b"r", b"abcdefghijklmnopq", b"all", b"fill", b"checkpoint", b"new", b"\xff", b"\t",
        b"lazy", b"#", b"256", b"18446744073709551617"]
+
+
+def seeded(rng: random.Random) -> list[bytes]:
+    """A row of the gate, in which lines are left out, repeated, put elsewhere or new."""
+    case = list(rng.choice([row for row in ROWS if row]))
+    for _ in range(rng.choice([0, 1, 2, 5])):
+        taken = case.pop(rng.randrange(len(case))) if len(case) > 1 and rng.random() < 0.5 else rng.choice(case)
+        at = rng.randint(0, len(case))
+        case[at:at] = rng.choice([[], [taken], [taken], [taken, taken], [line(rng, 2) + b"\n"]])
+    return case
 
 
 def limit(rng: random.Random) -> list[bytes]:
