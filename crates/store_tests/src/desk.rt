@@ -1,6 +1,5 @@
-// The desks of group_commit: what no clause says, which is that the calls succeed with ample memory, and that the
-// definitions say what is meant. All desks are of a ring of 3, of capacity 4,096. A test is a script: what is done with a
-// desk step by step, and what comes of each step.
+// The desks of group_commit while a batch flies, and where memory is short. All desks are of a ring of 3, of capacity
+// 4,096. A test is a script: what is done with a desk step by step, and what comes of each step.
 ghost use Rattle.ring_records.specs.Snapshot.{IsSound};
 
 use crate::journal::{commit, commits, commits_all, journal_of};
@@ -11,16 +10,12 @@ use group_commit::{Desk, Landed, Stub, Ticket};
 use ring_records::Refusal;
 use std::alloc::{AllocFailed, AllocGlobal};
 use std::process::Abort;
-use test_rows::{Ask, Cause, Note, Op, Say, Sends, candidate, key};
+use test_rows::{Ask, Note, Op, Say, Sends};
 
 mod batches;
-mod decisions;
+mod growths;
 mod landing;
 mod receipts;
-mod refusals;
-mod replies;
-mod runs;
-mod vouch;
 
 const STAND: Ask = Ask::Stand("red", 5, 10);
 
@@ -28,18 +23,14 @@ const STOOD: Op = Op::Stand("red", 5, 10);
 
 const WHO: Ask = Ask::Who("red", 5);
 
-const LATEST: Ask = Ask::Latest("red");
-
 /// The message that the Stand sends.
 const OWN: Note = Note::Token("red", 5, 10, 1);
 
 /// What is done with a desk, and what comes of it. A ticket goes by its place among those that are open, oldest first.
 #[derive(Clone, Copy)]
 enum Step {
-    /// The request gets a ticket of this number.
+    /// The request gets a ticket of this number, at the second call where the first finds no memory, which changes nothing.
     Asks(Ask, u64),
-    /// The same, at the second call where the first finds no memory, which changes nothing.
-    AsksAtLast(Ask, u64),
     /// The request gets no ticket, for this cause, and nothing is accepted.
     Refuses(Ask, No),
     /// The ticket is redeemed with this reply, and the stub has the question, the number and the reply.
@@ -52,18 +43,13 @@ enum Step {
     Closes,
     /// It has so many inputs, of which so many are durable or fly, and so many are durable.
     Has(usize, u64, u64),
-    /// Its inputs are these, oldest first.
-    Holds(&'static [Op]),
-    /// So many inputs are launched, and the journal makes them durable.
+    /// So many inputs are launched, at the second call where the first finds no memory, which changes nothing. The journal
+    /// makes them durable.
     Launches(usize),
-    /// The same, at the second call where the first finds no memory, which changes nothing.
-    LaunchesAtLast(usize),
     /// Nothing is launched: for this cause, or since nothing waits.
     LaunchesNone(Option<No>),
     /// What flies, so many inputs, lands and releases these packets. The desk knows these leaders by them.
     Lands(u64, &'static [Sends], &'static [Tells]),
-    /// So many inputs are launched and land so.
-    Settles(u64, &'static [Sends], &'static [Tells]),
     /// A receipt of these inputs of this node, behind those before them, is not taken and comes back, and nothing changes.
     IsForeign(u8, &'static [Op], &'static [Op]),
     /// The receipt of what flies is not taken.
@@ -74,10 +60,6 @@ enum Step {
     Fails(Op),
     /// The device fails with the one input that waits, and so does the desk, and no other desk.
     Spoils,
-    /// These leaders are known of the durable inputs, in this order.
-    Decides(&'static [Tells]),
-    /// For the key of the Stand this leader is known, of its bid and node.
-    Knows(Option<(u32, u8)>),
 }
 
 /// What a journal holds that summarises nothing: these inputs.
@@ -89,24 +71,19 @@ fn opening_of<R: Abort + AllocGlobal>(rt: &R, ops: &[Op]) -> Opening
     opening
 }
 
-/// The desk of this node, at this opening, that opens with these inputs, or why it does not open.
-fn opens<R: Abort + AllocGlobal>(
-    rt: &R,
-    number: u8,
-    run: u64,
-    ops: &[Op],
-) -> Result<Desk, Refusal> {
+/// The desk of node 1 that opens with these inputs, or why it does not open.
+fn opens<R: Abort + AllocGlobal>(rt: &R, ops: &[Op]) -> Result<Desk, Refusal> {
     let opening = opening_of(rt, ops);
-    Desk::open(rt.alloc(), node(rt, number), 3, 4096, run, opening)
+    Desk::open(rt.alloc(), node(rt, 1), 3, 4096, 0, opening)
 }
 
 /// The same of a desk that opens, at the second call where the first finds no memory.
-fn opened<R: Abort + AllocGlobal>(rt: &R, number: u8, run: u64, ops: &[Op]) -> Desk {
-    match opens(rt, number, run, ops) {
+fn opened<R: Abort + AllocGlobal>(rt: &R, ops: &[Op]) -> Desk {
+    match opens(rt, ops) {
         Ok(desk) => desk,
         Err(refusal) => {
             assert!(rt; refusal == Refusal::OutOfMemory);
-            opens(rt, number, run, ops).expect(rt, "lawful inputs")
+            opens(rt, ops).expect(rt, "lawful inputs")
         }
     }
 }
@@ -175,28 +152,6 @@ fn launches_none(rt: &impl Abort, desk: &mut Desk, no: Option<No>) {
     }
 }
 
-/// The desk has these decisions, in this order.
-fn decides(rt: &impl Abort, desk: &Desk, tells: &[Tells]) {
-    let told = desk.decisions().expect(rt, "ample memory");
-    tells_are(rt, &told, tells);
-}
-
-/// For the key of the Stand the desk knows this leader, of this bid and node, or none.
-fn knows(rt: &impl Abort, desk: &Desk, numbers: Option<(u32, u8)>) {
-    let red = key("red", 5).expect(rt, "a key");
-    let leader = match numbers {
-        Some((bid, node)) => Some(candidate(bid, node).expect(rt, "a candidate")),
-        None => None,
-    };
-    assert!(rt; desk.who(&red) == leader);
-}
-
-/// The inputs of the desk are these, oldest first.
-fn holds<R: Abort + AllocGlobal>(rt: &R, desk: &Desk, ops: &[Op]) {
-    let inputs = inputs(rt, rt.alloc(), ops);
-    assert!(rt; desk.history() == inputs.as_slice());
-}
-
 /// The desk has launched the spoiled batch, and fails.
 fn fails(rt: &impl Abort, desk: &mut Desk, spoiled: Spoiled) {
     match desk.fail(spoiled) {
@@ -213,10 +168,10 @@ struct Station {
     flown: Vec<Receipt>,
 }
 
-/// A desk of this node, at this opening, that opens with these inputs, and the journal that holds them.
-fn station_of<R: Abort + AllocGlobal>(rt: &R, number: u8, run: u64, ops: &[Op]) -> Station {
-    let desk = opened(rt, number, run, ops);
-    let mut journal = journal_of(rt, node(rt, number));
+/// A desk of node 1 that opens with these inputs, and the journal that holds them.
+fn station_of<R: Abort + AllocGlobal>(rt: &R, ops: &[Op]) -> Station {
+    let desk = opened(rt, ops);
+    let mut journal = journal_of(rt, node(rt, 1));
     if !ops.is_empty() {
         commits_all(rt, &mut journal, ops).into_parts();
     }
@@ -228,9 +183,9 @@ fn station_of<R: Abort + AllocGlobal>(rt: &R, number: u8, run: u64, ops: &[Op]) 
     }
 }
 
-/// The desk of this node, at its opening 0, opens with these inputs; then this is done with it, step by step.
-fn plays<R: Abort + AllocGlobal>(rt: &R, number: u8, before: &[Op], steps: &[Step]) {
-    let mut station = station_of(rt, number, 0, before);
+/// This is done with a new desk of node 1, step by step.
+fn plays<R: Abort + AllocGlobal>(rt: &R, steps: &[Step]) {
+    let mut station = station_of(rt, &[]);
     station.plays(rt, steps);
     station.ends(rt);
 }
@@ -260,33 +215,22 @@ impl Station {
     fn does<R: Abort + AllocGlobal>(&mut self, rt: &R, step: Step) {
         match step {
             Step::Asks(ask, number) => self.asks(rt, ask, number),
-            Step::AsksAtLast(ask, number) => self.asks_at_last(rt, ask, number),
             Step::Refuses(ask, no) => refuses(rt, &mut self.desk, ask, no.refusal()),
-            Step::Redeems(place, say) => {
-                self.redeems(rt, place, say);
-            }
+            Step::Redeems(place, say) => drop(self.redeems(rt, place, say)),
             Step::Returns(place, no) => self.returns(rt, place, no),
             Step::Forfeits(place) => self.forfeits(rt, place),
             Step::Closes => self.desk.close(),
             Step::Has(inputs, flying, durable) => {
                 assert!(rt; counts(&self.desk) == (inputs, flying, durable))
             }
-            Step::Holds(ops) => holds(rt, &self.desk, ops),
             Step::Launches(count) => self.launches(rt, count),
-            Step::LaunchesAtLast(count) => self.launches_at_last(rt, count),
             Step::LaunchesNone(no) => launches_none(rt, &mut self.desk, no),
             Step::Lands(count, sends, tells) => self.lands(rt, count, sends, tells),
-            Step::Settles(count, sends, tells) => {
-                self.launches(rt, count as usize);
-                self.lands(rt, count, sends, tells)
-            }
             Step::IsForeign(number, before, ops) => self.is_foreign(rt, number, before, ops),
             Step::LandsNot => self.lands_not(rt),
             Step::IsLost(number, first, count) => self.is_lost(rt, (number, first, count)),
             Step::Fails(op) => self.fails(rt, op),
             Step::Spoils => self.spoils(rt),
-            Step::Decides(tells) => decides(rt, &self.desk, tells),
-            Step::Knows(leader) => knows(rt, &self.desk, leader),
         }
     }
 
@@ -307,29 +251,25 @@ impl Station {
         self.tickets.remove(place)
     }
 
-    fn asks(&mut self, rt: &impl Abort, ask: Ask, number: u64) {
-        let question = request(rt, ask);
-        let ticket = self.desk.submit(question).expect(rt, "a ticket");
-        assert!(rt; ticket.number() == number);
-        assert!(rt; ticket.question() == question);
-        let place = self.tickets.len();
-        self.keeps(rt, place, ticket);
-    }
-
-    fn asks_at_last(&mut self, rt: &impl Abort, ask: Ask, number: u64) {
+    /// A ticket for the request.
+    fn ticket_for(&mut self, rt: &impl Abort, ask: Ask) -> Ticket {
         let before = shown(&self.desk);
         match self.desk.submit(request(rt, ask)) {
-            Ok(ticket) => {
-                assert!(rt; ticket.number() == number);
-                let place = self.tickets.len();
-                self.keeps(rt, place, ticket);
-            }
+            Ok(ticket) => ticket,
             Err(refusal) => {
                 assert!(rt; refusal == Refusal::OutOfMemory);
                 assert!(rt; shown(&self.desk) == before);
-                self.asks(rt, ask, number);
+                let question = request(rt, ask);
+                self.desk.submit(question).expect(rt, "a ticket")
             }
         }
+    }
+
+    fn asks(&mut self, rt: &impl Abort, ask: Ask, number: u64) {
+        let ticket = self.ticket_for(rt, ask);
+        assert!(rt; ticket.number() == number);
+        let place = self.tickets.len();
+        self.keeps(rt, place, ticket);
     }
 
     fn redeems(&mut self, rt: &impl Abort, place: usize, say: Say) -> Stub {
@@ -379,22 +319,16 @@ impl Station {
     }
 
     fn launches(&mut self, rt: &impl Abort, count: usize) {
-        match launched(rt, &mut self.desk) {
-            Ok(batch) => self.flies(rt, batch, count),
-            Err(refusal) => panic!(rt; "{refusal}"),
-        }
-    }
-
-    fn launches_at_last(&mut self, rt: &impl Abort, count: usize) {
         let before = shown(&self.desk);
-        match launched(rt, &mut self.desk) {
-            Ok(batch) => self.flies(rt, batch, count),
+        let batch = match launched(rt, &mut self.desk) {
+            Ok(batch) => batch,
             Err(refusal) => {
                 assert!(rt; refusal == Refusal::OutOfMemory);
                 assert!(rt; shown(&self.desk) == before);
-                self.launches(rt, count);
+                launched(rt, &mut self.desk).expect(rt, "ample memory")
             }
-        }
+        };
+        self.flies(rt, batch, count);
     }
 
     /// The receipt of what flies.

@@ -1,13 +1,11 @@
 // Journals in memory, whose devices fail where a test wants it.
 ghost use Rattle.std.specs.Prelude.{◌≡◌};
-ghost use Rattle.ring_records.specs.Snapshot.{IsSound};
-ghost use Rattle.gated_journal.specs.Batch.{base_by};
 ghost use Rattle.gated_journal.specs.Journal.{member_of};
 
 use crate::rows::inputs;
 use disk_model::{FuseDevice, MemDevice};
-use gated_journal::{Batch, Checkpoint, Journal, Receipt, Spoiled, device_size};
-use ring_records::{LAYOUT, NodeNo, read_summary, summary_len};
+use gated_journal::{Batch, Journal, Receipt, Spoiled, device_size};
+use ring_records::NodeNo;
 use std::alloc::AllocGlobal;
 use std::process::Abort;
 use test_rows::Op;
@@ -89,42 +87,4 @@ pub fn commits_all<R: Abort + AllocGlobal>(
         Err(_) => Batch::new(rt.alloc(), node, first, &inputs).expect(rt, "1 to 64 inputs"),
     };
     commits(rt, journal, batch)
-}
-
-/// A summary of this snapshot, of a ring of 3, that stands for what the journal holds.
-fn checkpoint_of<R: Abort + AllocGlobal>(
-    rt: &R,
-    journal: &Journal<FuseDevice<MemDevice>>,
-    snapshot: &[u8],
-) -> Checkpoint
-    ensures { IsSound 3 (base_by result) }
-{
-    let base = read_summary(rt.alloc(), snapshot, 3, LAYOUT).expect(rt, "a snapshot");
-    assert!(rt; base.floors.len() <= u32::MAX as usize);
-    assert!(rt; summary_len(&base, LAYOUT) <= u64::from(u32::MAX));
-    assert!(rt; base.keys.len() <= u32::MAX as usize);
-    let made = Checkpoint::new(rt.alloc(), journal.node(), journal.len(), &[], base);
-    made.expect(rt, "ample memory")
-}
-
-/// The journal, of a ring of 3, makes the summary of this snapshot durable in place of what it holds.
-pub fn checkpoints<R: Abort + AllocGlobal>(
-    rt: &R,
-    journal: &mut Journal<FuseDevice<MemDevice>>,
-    snapshot: &[u8],
-)
-    requires { (member_of journal.old).n ≡ 3 }
-{
-    let checkpoint = checkpoint_of(rt, journal, snapshot);
-    assert!(rt; checkpoint.cost() <= journal.capacity());
-    assert!(rt; !journal.is_spoiled());
-    assert!(rt; checkpoint.node() == journal.node());
-    assert!(rt; checkpoint.first() == journal.len());
-    assert!(rt; journal.epoch() < (1 << 40) - 1);
-    match journal.checkpoint(checkpoint) {
-        Ok(receipt) => {
-            receipt.into_parts();
-        }
-        Err(_spoiled) => panic!(rt; "spoiled"),
-    }
 }

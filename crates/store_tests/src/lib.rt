@@ -1,12 +1,14 @@
-//! Tests of the desk of a node, and of the durable node over it.
+//! Tests of the desk of a node, and of the durable node over it, beside the rows of node_rows.
 #![tactic(auto)]
 
 #[cfg(test)]
 mod desk;
 #[cfg(test)]
+mod growths;
+#[cfg(test)]
 mod journal;
 #[cfg(test)]
-mod node;
+mod pieces;
 #[cfg(test)]
 mod rows;
 #[cfg(test)]

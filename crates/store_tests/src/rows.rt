@@ -7,26 +7,17 @@ use test_rows::{Ask, Op, Say, Sends, candidate, key};
 /// Why a call is refused, as a plain name.
 #[derive(Clone, Copy)]
 pub enum No {
-    BadNumber,
     Failed,
     Early,
     Busy,
-    Full,
-    Limit,
-    /// The first call of the device that failed.
-    Device,
 }
 
 impl No {
     pub fn refusal(self) -> Refusal {
         match self {
-            No::BadNumber => Refusal::BadNumber,
             No::Failed => Refusal::Failed,
             No::Early => Refusal::Early,
             No::Busy => Refusal::Busy,
-            No::Full => Refusal::Full,
-            No::Limit => Refusal::Limit,
-            No::Device => Refusal::Device(1),
         }
     }
 }

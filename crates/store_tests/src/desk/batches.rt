@@ -21,7 +21,7 @@ static WAITS: [Step; 12] = [
 
 #[test]
 fn what_waits_is_launched_once(rt: HostRuntime) {
-    plays(&rt, 1, &[], &WAITS);
+    plays(&rt, &WAITS);
 }
 
 /// A desk that has not launched the spoiled batch does not fail by it.
@@ -52,7 +52,7 @@ impl Station {
         match commit(rt, &mut self.journal, batch) {
             Ok(_receipt) => panic!(rt; "committed"),
             Err(spoiled) => {
-                let mut other = opened(rt, 1, 0, &[STOOD]);
+                let mut other = opened(rt, &[STOOD]);
                 let spoiled = is_foreign(rt, &mut other, spoiled);
                 drop(other);
                 fails(rt, &mut self.desk, spoiled);
@@ -72,5 +72,5 @@ static FAILED: [Step; 6] = [
 
 #[test]
 fn a_desk_whose_device_failed_launches_and_takes_no_more(rt: HostRuntime) {
-    plays(&rt, 1, &[], &FAILED);
+    plays(&rt, &FAILED);
 }

@@ -1,7 +1,5 @@
 // Which receipts a desk takes.
-use super::Step::{
-    Asks, Closes, Fails, Forfeits, IsForeign, Lands, LandsNot, Launches, Redeems, Returns, Settles,
-};
+use super::Step::{Asks, Fails, Forfeits, IsForeign, Lands, LandsNot, Launches, Redeems, Returns};
 use super::*;
 use test_rows::Sends::{Carry, Credit};
 
@@ -99,7 +97,7 @@ static THE_BATCH_THAT_FLIES: [Step; 16] = [
 
 #[test]
 fn of_the_batch_that_flies_alone(rt: HostRuntime) {
-    plays(&rt, 1, &[], &THE_BATCH_THAT_FLIES);
+    plays(&rt, &THE_BATCH_THAT_FLIES);
 }
 
 static FAILED: [Step; 6] = [
@@ -113,17 +111,5 @@ static FAILED: [Step; 6] = [
 
 #[test]
 fn none_once_the_device_failed(rt: HostRuntime) {
-    plays(&rt, 1, &[], &FAILED);
-}
-
-static CLOSED: [Step; 4] = [
-    Asks(STAND, 1),
-    Closes,
-    Settles(1, &[Carry(0, OWN)], &[]),
-    Redeems(0, Say::Stood),
-];
-
-#[test]
-fn also_once_it_is_closed(rt: HostRuntime) {
-    plays(&rt, 1, &[], &CLOSED);
+    plays(&rt, &FAILED);
 }

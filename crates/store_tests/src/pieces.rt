@@ -1,9 +1,12 @@
 // A node whose journal is read in pieces.
-use super::*;
 use crate::journal::{commits_all, journal_with};
 use crate::short_reads::{MOST, ShortReads};
-use disk_model::Device;
+use disk_model::{Device, FuseDevice, MemDevice};
 use gated_journal::Journal;
+use node_store::Node;
+use ring_records::NodeNo;
+use std::alloc::AllocGlobal;
+use std::process::Abort;
 use test_rows::Op;
 
 const CAPACITY: u32 = 65_536;
