@@ -4,6 +4,7 @@ import random
 
 import bounded
 import lines
+import rows
 from bounded import Bounded
 from nodes import REPLIES, Input, Node, Stand, Take
 from programs import Kind
@@ -108,6 +109,11 @@ class Scripts(Kind):
             case.append(line(rng, nodes) + rng.choice([b"\n"] * 12 + [b"\r\n", b"\r\r\n", b"", b" \n"]))
         kind = rng.random()
         at = rng.randint(0, len(case))
+        if kind > 0.9:
+            # A row of the gate, with lines between its own.
+            between, case = case[1:1 + rng.randrange(9)], [*rng.choice(rows.scripts())]
+            for each in between:
+                case.insert(rng.randint(1, len(case)), each)
         if kind < 0.004:
             case[at:at] = limit(rng)
         elif kind < 0.06:

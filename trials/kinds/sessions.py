@@ -3,6 +3,7 @@ import os
 import random
 import shutil
 
+import rows
 import scripts
 from programs import Kind, Programs, Server
 from talks import Ring
@@ -56,6 +57,8 @@ def session(rng: random.Random) -> tuple[int, bytes, list[int]]:
         text = rng.choice([b"latest a\n", b"\n", b"no\r\n"]) * rng.randint(9_998, 10_003) + rng.choice([b"", b"bye\n", b"who"])
     else:
         told = [line(rng) for _ in range(rng.choice([1, 2, 5, 20, 60]))]
+        if kind > 0.9:
+            told += rng.choice(rows.sessions())
         # While elections are on their way nobody knows which of them a floor ends.
         text = b"".join(sorted(told, key=lambda each: each.split()[:1] != [b"retire"]))
     if rng.random() < 0.3:

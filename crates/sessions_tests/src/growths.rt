@@ -1,5 +1,4 @@
 // A session, its node and its service where a growth is refused: whole answers are written, and the next course is whole.
-use crate::talk::Solo;
 use disk_model::{FuseDevice, MemDevice};
 use node_store::Node;
 use ring_records::{NodeNo, Refusal};
@@ -17,6 +16,9 @@ static TEXTS: [&[u8]; 4] = [
     b"no 8 memory\nno 9 failed\nno 1 name\nno 25 line\nbye\n",
     b"stood\nno 8 memory\nno 1 name\nno 25 line\nbye\n",
 ];
+
+/// A service over a node in memory.
+type Solo = SoloService<FuseDevice<MemDevice>>;
 
 /// How a session ended, and what it wrote.
 type Course = (Result<u64, SessionFault>, Vec<u8>);

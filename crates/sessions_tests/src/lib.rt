@@ -1,19 +1,10 @@
-//! Tests of sessions: what is written, byte for byte, how many lines are answered, and what is left unread.
+//! Tests of sessions: readers, writers and flushes that fail, or do little at a time, and refused growths. All else is
+//! rows.
 #![tactic(auto)]
 
-#[cfg(test)]
-mod ends;
 #[cfg(test)]
 mod fakes;
 #[cfg(test)]
 mod faults;
 #[cfg(test)]
-mod floors;
-#[cfg(test)]
 mod growths;
-#[cfg(test)]
-mod lines;
-#[cfg(test)]
-mod solo;
-#[cfg(test)]
-mod talk;

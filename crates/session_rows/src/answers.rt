@@ -1,0 +1,123 @@
+// Lines of a session, and below each what it was answered.
+ghost use Rattle.std.specs.Prelude.{◌<◌, length};
+
+use crate::course::Course;
+use line_words::first_line;
+use std::alloc::{AllocError, Global};
+
+/// What a line that is printed below another begins with.
+pub const INDENT: &[u8] = b"  ";
+
+/// A line of the rows, and how many line feeds the client sends for it.
+#[derive(Clone, Copy)]
+pub struct Sent<'a> {
+    pub line: &'a [u8],
+    pub feeds: usize,
+}
+
+/// Adds a line of these parts.
+pub fn add_line(out: &mut Vec<u8>, front: &[u8], line: &[u8]) -> Result<(), AllocError> {
+    out.extend_from_slice(front)?;
+    out.extend_from_slice(line)?;
+    out.extend_from_slice(b"\n")
+}
+
+/// How many of the first answers, at most `most`, are the same as the first one, and what follows them.
+fn same_answers(answers: &[u8], most: usize) -> (usize, &[u8])
+    requires { 0 < length answers.now }
+{
+    let (answer, mut rest) = first_line(answers);
+    let mut times: usize = 1;
+    for _ in 1..most {
+        if rest.is_empty() {
+            break;
+        }
+        let (next, after) = first_line(rest);
+        if next != answer {
+            break;
+        }
+        rest = after;
+        times = times.saturating_add(1);
+    }
+    (times, rest)
+}
+
+/// Adds an answer that came so often.
+fn add_answer(
+    alloc: Global,
+    out: &mut Vec<u8>,
+    answer: &[u8],
+    times: usize,
+) -> Result<(), AllocError> {
+    out.extend_from_slice(INDENT)?;
+    if times > 1 {
+        let told = format!(in alloc; "{times} times ")?;
+        out.extend_from_slice(told.as_bytes())?;
+    }
+    add_line(out, b"", answer)
+}
+
+/// Adds the next answers, at most so many, and gives what follows them.
+fn add_answers<'a>(
+    alloc: Global,
+    out: &mut Vec<u8>,
+    answers: &'a [u8],
+    most: usize,
+) -> Result<&'a [u8], AllocError> {
+    let mut rest = answers;
+    let mut left = most;
+    for _ in 0..most {
+        if left == 0 || rest.is_empty() {
+            break;
+        }
+        let (answer, _) = first_line(rest);
+        let (times, after) = same_answers(rest, left);
+        add_answer(alloc, out, answer, times)?;
+        left = left.saturating_sub(times);
+        rest = after;
+    }
+    Ok(rest)
+}
+
+/// Adds the lines of a session, each with its answers; those that are left come below the last one.
+pub fn add_session(
+    alloc: Global,
+    out: &mut Vec<u8>,
+    lines: &[Sent<'_>],
+    answers: &[u8],
+) -> Result<(), AllocError> {
+    let mut rest = answers;
+    for sent in lines {
+        add_line(out, b"", sent.line)?;
+        rest = add_answers(alloc, out, rest, sent.feeds)?;
+    }
+    let count = rest.len();
+    add_answers(alloc, out, rest, count)?;
+    Ok(())
+}
+
+/// Adds what is unusual of how a session went: bytes that it left unread, another count of lines than of answers, or why
+/// it was broken off.
+pub fn add_course(
+    alloc: Global,
+    out: &mut Vec<u8>,
+    course: Course,
+    answers: &[u8],
+) -> Result<(), AllocError> {
+    let told = match course {
+        Course::Ended { lines, unread } => {
+            if unread > 0 {
+                let told = format!(in alloc; "! {unread} bytes unread")?;
+                add_line(out, INDENT, told.as_bytes())?;
+            }
+            let count = answers.iter().filter(|byte| **byte == b'\n').count();
+            if lines == count as u64 {
+                return Ok(());
+            }
+            format!(in alloc; "! {lines} lines answered")?
+        }
+        Course::Broken => format!(in alloc; "! broken off")?,
+        Course::Refused(refusal) => format!(in alloc; "! {refusal}")?,
+    };
+    add_line(out, INDENT, told.as_bytes())
+}
