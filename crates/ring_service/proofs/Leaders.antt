@@ -1,5 +1,5 @@
 -- The leaders that the nodes of a ring named are one for each key.
-use Rattle.std.proofs.Common.{◌≡◌, ℕ, ◌≤◌, Bool, List, [], ◌++◌, append_assoc, take, refl, sym, ◌∙◌, subst, arith}
+use Rattle.std.proofs.Common.{◌≡◌, ◌⊎◌, ℕ, ◌≤◌, Bool, List, [], ◌++◌, append_assoc, take, Some, refl, sym, ap, ◌∙◌, subst, inl, inr, arith}
 use Rattle.std.specs.List.{Contains}
 use Rattle.std.proofs.lemmas.Bool.Decides.{nat_tests}
 use mathlib.Core.List.{IsPrefix}
@@ -8,17 +8,18 @@ use Rattle.ring_records.specs.declared.input.Input.{Input}
 use Rattle.ring_records.specs.declared.key.Key.{Key}
 use Rattle.ring_records.specs.declared.packet.Packet.{Packet}
 use Rattle.ring_records.specs.declared.packet.Packet.TheVariants.{Carry}
+use Rattle.ring_records.specs.declared.reply.Reply.{Reply}
 use Rattle.ring_records.specs.declared.request.Request.{Request}
-use Rattle.ring_records.specs.declared.request.Request.TheVariants.{Who}
 use Rattle.ring_records.specs.Admission.{IsAllowed, IsLawful}
-use Rattle.ring_records.specs.Answer.{Answers, PacketRests}
+use Rattle.ring_records.specs.Answer.{PacketRests}
+use Rattle.ring_records.specs.Leader.{leader}
 use Rattle.ring_records.specs.Lists.{EachAfter}
 use Rattle.ring_records.specs.Place.{before}
 use Rattle.ring_records.specs.States.{NodeState, launched_base, left_by}
 use Rattle.ring_records.proofs.Prefixes.{prefix_trans}
 use Rattle.ring_records.proofs.Resting.{packets-rest, window-rests}
 use Rattle.history_laws.specs.Linked.{AreHanded, IsLeaderIn}
-use Rattle.history_laws.proofs.Handed.{replied_in}
+use Rattle.history_laws.proofs.Handed.{shown_in}
 use Rattle.group_commit.specs.declared.landed.Landed.{Landed}
 use Rattle.group_commit.specs.Desk.{DeskKept}
 use Rattle.group_commit.specs.Past.{shifted}
@@ -27,9 +28,10 @@ use Rattle.node_store.proofs.Left.{allowed_in}
 use Rattle.commit_hub.specs.Tied.{Durable, durable_part}
 use Rattle.commit_hub.specs.Told.{IsBroughtBehind, IsWindowBehind}
 use Rattle.ring_service.specs.Begun.{BeginsBehind}
-use Rattle.ring_service.specs.Leaders.{Life, AreFromReleased, AreLives, IsEarlier, IsNamed, IsReleasedBy, history_of}
+use Rattle.ring_service.specs.Leaders.{Life, AreFromReleased, AreLives, IsEarlier, IsNamed, IsReadFrom, IsReleasedBy, IsReplied, Names, history_of}
 use Rattle.ring_service.specs.Rounds.{at_rest}
 use Rattle.ring_service.proofs.Begun.{prefix_behind}
+use Rattle.ring_service.proofs.Readers.{LeadsWithin, read_leads, reply_leads}
 use Rattle.ring_service.proofs.Series.{opens_again}
 
 -- ---- what a node released
@@ -107,17 +109,18 @@ module _ (n : ℕ) (lives : ℕ → Life) (are : AreLives n lives) where
         (is.begun, is.begins.0, is.begins.1, subst (λ (me : ℕ). PacketRests me is.begun (Carry msg_no m)) sender.node is.rests);
   }
 
+  given_leads : (was : Life) (key : Key) (c : Candidate) (question : Request) (reply : Reply) → IsReplied was question reply ⊎ IsReadFrom was question reply → Names question reply key c
+      → LeadsWithin was.member.node (history_of was) key c
+  given_leads was key c question reply (inl given) names = reply_leads was question reply key c given names
+  given_leads was key c question reply (inr read) names = read_leads was question reply key c read names
+
   pub named_leads : (key : Key) (c : Candidate) → IsNamed n lives key c → IsLeaderIn n histories key c
   named_leads key c k =
       let named = k.named in
       let was = named.was in
-      let life = lives k.node in
-      let is = are k.node k.low k.high in
-      let at : was.member.node ≡ k.node = named.earlier.node ∙ is.node in
-      let of : was.member.n ≡ n = named.earlier.ring ∙ is.ring in
-      let begun : List Input = was.past ++ named.begun in
-      let begins : IsPrefix begun (histories k.node) = prefix_trans begun (history_of was) (histories k.node) (prefix_behind was.past named.begun was.known.inputs named.covered) named.earlier.begins in
-      let gives = subst (λ (q : Request). Answers was.member.node was.member.n was.member.capacity named.answer.base begun q named.given.answer) named.question named.answer.gives in
-      let by_node = subst (λ (i : ℕ). Answers i was.member.n was.member.capacity named.answer.base begun (Who key) named.given.answer) at gives in
-      let by_ring = subst (λ (size : ℕ). Answers k.node size was.member.capacity named.answer.base begun (Who key) named.given.answer) of by_node in
-      replied_in n was.member.capacity histories k.node named.answer.base begun begins.0 key c named.given.answer k.low k.high begins.1 by_ring named.says
+      let at : was.member.node ≡ k.node = named.earlier.node ∙ (are k.node k.low k.high).node in
+      let within = given_leads was key c named.question named.reply named.given named.names in
+      let later = named.earlier.begins in
+      shown_in n histories k.node within.0 (within.1 ++ later.0) key c k.low k.high
+      (sym (append_assoc within.0 within.1 later.0) ∙ (ap (λ (l : List Input). l ++ later.0) within.2 ∙ later.1))
+      (subst (λ (me : ℕ). leader me within.0 key ≡ Some c) at within.3)

@@ -4,6 +4,7 @@ pub mod Contents
 pub mod Keys
 pub mod Leaders
 pub mod Next
+mod Readers
 pub mod Restarted
 pub mod Resting
 pub mod Series

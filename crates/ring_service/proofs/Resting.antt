@@ -66,7 +66,7 @@ begins_round past known round later =
 -- ---- what it released
 
 -- an input tells a decision where it decides that
-told_decides : (me : ℕ) (h : List Input) (x : Input) (d : Decision) → told me h x ≡ Some (Decided d) → decided me h x ≡ Some d
+pub told_decides : (me : ℕ) (h : List Input) (x : Input) (d : Decision) → told me h x ≡ Some (Decided d) → decided me h x ≡ Some d
 unfolding told
 told_decides me h (Stand key bid) d e = none≢some (Decided d) e
 told_decides me h (Take msg_no msg) d e = go (decided me h (Take msg_no msg)) e

@@ -4,6 +4,7 @@ pub mod Flushers
 pub mod Hosts
 pub mod Leaders
 pub mod Props
+pub mod Reads
 pub mod Restarts
 pub mod Rounds
 pub mod Series

@@ -1,22 +1,19 @@
 -- What a service over a hub and a board answers.
-use Rattle.std.specs.Prelude.{ℕ, ◌≡◌, ◌<◌, ◌≤◌, ◌+◌, ◌⊎◌, List, Option, Some, Ok, Err}
+use Rattle.std.specs.Prelude.{◌≡◌, ◌<◌, ◌≤◌, ◌+◌, ◌⊎◌, List, Option, Some, Ok, Err}
 use Rattle.std.specs.Option.{option_map}
 use Rattle.std.specs.declared.sync.ledger.Ledger as ledger
 use mathlib.Core.List.{IsPrefix}
-use Rattle.ring_records.specs.declared.candidate.Candidate.{Candidate}
 use Rattle.ring_records.specs.declared.key.Key.{Key}
 use Rattle.ring_records.specs.declared.notice.Notice.{Notice}
 use Rattle.ring_records.specs.declared.input.Input.{Input}
 use Rattle.ring_records.specs.declared.refusal.Refusal.{Refusal}
 use Rattle.ring_records.specs.declared.refusal.Refusal.TheVariants as refused
 use Rattle.ring_records.specs.declared.reply.Reply.{Reply}
-use Rattle.ring_records.specs.declared.reply.Reply.TheVariants as replied
 use Rattle.ring_records.specs.declared.request.Request.{Request}
 use Rattle.ring_records.specs.declared.request.Request.TheVariants.{Stand, Take, Acked, Retire, Who, Latest}
 use Rattle.ring_records.specs.declared.summary.Summary.{Summary}
 use Rattle.ring_records.specs.Answer.{Answered}
-use Rattle.ring_records.specs.Notices.{floor_in, leader_in, leads_in}
-use Rattle.ring_records.specs.Leader.{IsLatest}
+use Rattle.ring_records.specs.Notices.{floor_in}
 use Rattle.ring_records.specs.Member.{Member}
 use Rattle.group_commit.specs.Desk.{IsAnswer}
 use Rattle.group_commit.specs.Past.{IsPast}
@@ -26,13 +23,8 @@ use Rattle.commit_hub.specs.declared.ledgers.Node as node
 use Rattle.commit_hub.specs.declared.share.Begun.{Begun}
 use Rattle.commit_hub.specs.declared.share.Share.{Share}
 use Rattle.sessions.specs.Session.{Answer}
+use Rattle.ring_service.specs.Reads.{IsReadReply}
 use Rattle.ring_service.specs.declared.service.HubService.{HubService}
-
--- the greatest term of the group with a leader in the list that is seen, and that leader
-pub record IsLatestReply (group : List ℕ) (reply : Reply) (list : List Notice) : Type 0 where
-  pub latest : Option (ℕ × Candidate)
-  pub is : reply ≡ replied.Latest latest
-  pub greatest : IsLatest (leads_in list group) latest
 
 module _ {A : Type 0} {a : node.Ghosts A} {la : ledger.Ghosts A} where
   -- of a stub with its token: the stub, and the inputs that the token speaks of
@@ -107,9 +99,9 @@ module _ {R J A : Type 0} {a : node.Ghosts A} {la : ledger.Ghosts A} where
   HubAnswers member opening old (Stand key bid) (Err why) new = IsUnreleased old why new
   HubAnswers member opening old (Retire group floor) (Ok reply) new = IsReleased member opening old (Retire group floor) reply new
   HubAnswers member opening old (Retire group floor) (Err why) new = IsUnreleased old why new
-  HubAnswers member opening old (Who key) (Ok reply) new = (reply ≡ replied.Leader (leader_in (seen (reader_of new)) key)) × IsRead old new
+  HubAnswers member opening old (Who key) (Ok reply) new = IsReadReply (seen (reader_of new)) (Who key) reply × IsRead old new
   HubAnswers member opening old (Who key) (Err why) new = IsOver old why new ⊎ IsGivenUp old key why new
-  HubAnswers member opening old (Latest group) (Ok reply) new = IsLatestReply group reply (seen (reader_of new)) × IsRead old new
+  HubAnswers member opening old (Latest group) (Ok reply) new = IsReadReply (seen (reader_of new)) (Latest group) reply × IsRead old new
   HubAnswers member opening old (Latest group) (Err why) new = IsOver old why new
   HubAnswers member opening old (Take number msg) answer new = ⊥
   HubAnswers member opening old (Acked upto) answer new = ⊥

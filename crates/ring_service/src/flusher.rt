@@ -18,7 +18,7 @@ ghost use Rattle.ring_service.specs.Props.{HasKnown-prop};
 
 use crate::gate::Gate;
 use commit_hub::{Begun, Hub, Node, Tie, Work};
-use decision_board::{Board, Naming, Owed};
+use decision_board::{Board, Naming, Owed, Told};
 use disk_model::{Device, SystemFault};
 use gated_journal::Journal;
 use group_commit::Landed;
@@ -166,6 +166,20 @@ impl<V: Device, J: Naming, A: Node> Flusher<V, J, A> {
         ensures has_ended { has_ended self.new ≡ has_ended self.old }
     {
         self.tie.covers(begun);
+    }
+
+    /// Changes nothing, and nothing runs: all that it was told of begins with what was told, as with what a reader of its board
+    /// saw (`BoardReader::saw`).
+    pub fn covers_told(&mut self, told: &Told<J>)
+        ensures begins { IsPrefix told.now (told_to self.old) }
+        ensures known { known_to self.new ≡ known_to self.old }
+        ensures journal { journal_of self.new ≡ journal_of self.old }
+        ensures board { board_of self.new ≡ board_of self.old }
+        ensures owed { owed_of self.new ≡ owed_of self.old }
+        ensures is_published { is_published self.new ≡ is_published self.old }
+        ensures has_ended { has_ended self.new ≡ has_ended self.old }
+    {
+        self.board.covers(told);
     }
 
     /// Has the hub of its tie let go of the inputs that the area of the journal in use stands for.

@@ -15,22 +15,22 @@ ghost use Rattle.ring_records.specs.declared.packet.Packet.{Packet};
 ghost use Rattle.ring_records.specs.Admission.{IsAllowed};
 ghost use Rattle.ring_records.specs.Answer.{Answered, Answers, PacketRests};
 ghost use Rattle.ring_records.specs.History.{floor};
-ghost use Rattle.ring_records.specs.Leader.{IsLatest, leader};
+ghost use Rattle.ring_records.specs.Leader.{IsLatest, first_leader, leader};
 ghost use Rattle.ring_records.specs.Lists.{EachAfter};
 ghost use Rattle.ring_records.specs.Notices.{floor_in, leader_in, leads_in, IsNotBelow};
 ghost use Rattle.ring_records.specs.Order.{is_less};
-ghost use Rattle.ring_records.specs.States.{NodeState, IsLawfulState, left_by};
+ghost use Rattle.ring_records.specs.States.{NodeState, IsLawfulState, durable_in, left_by};
 ghost use Rattle.gated_journal.specs.Areas.{AllReadAs};
 ghost use Rattle.gated_journal.specs.Reading.{Reading};
 ghost use Rattle.group_commit.specs.declared.landed.Landed.{Landed};
 ghost use Rattle.group_commit.specs.Content.{IsContent};
-ghost use Rattle.group_commit.specs.Desk.{DeskKept, IsAnswer};
+ghost use Rattle.group_commit.specs.Desk.{DeskKept, IsAnswer, seen};
 ghost use Rattle.group_commit.specs.Past.{IsPast, shifted};
 ghost use Rattle.node_store.specs.State.{Holds, IsOpenedAs};
 ghost use Rattle.commit_hub.specs.Tied.{Durable, durable_part};
 ghost use Rattle.commit_hub.specs.Told.{IsBroughtBehind, IsWindowBehind};
 ghost use Rattle.ring_service.specs.Begun.{Begins, BeginsBehind};
-ghost use Rattle.ring_service.specs.Leaders.{Life, AreFromReleased, AreLives, IsEarlier, IsNamed, IsReleasedBy, history_of};
+ghost use Rattle.ring_service.specs.Leaders.{Life, AreFromReleased, AreLives, IsEarlier, IsNamed, IsReleasedBy, IsTold, history_of};
 ghost use Rattle.ring_service.specs.Restarts.{AreLater, UnlessRetired};
 ghost use Rattle.ring_service.specs.Rounds.{IsRound, IsStopped, at_rest, known_behind};
 ghost use Rattle.ring_service.specs.Series.{Round, AreRounds, IsCut, IsHeld, IsLeftBehind, IsRoundOf, IsSplit, RestsOn, device_behind, inputs_of, known_since};
@@ -120,10 +120,24 @@ pub fn released_by_a_life()
         → IsEarlier life (record { member = life.member; opening = desk.opening; past = take (left_by keep left.state).base.inputs (left_by keep left.state).inputs; known = durable_part desk }) }
 {}
 
-/// All leaders that the nodes of a ring of running hubs named for a key, in replies of `Hub::redeem_wait` whose tokens their
-/// flushers cover, in these lives or in earlier ones, are one candidate. It stands in its node's durable inputs, and every
-/// other candidate that stands for the key in some node's is less. Of the links this is asked: each message that a node took
-/// came in a packet that the node before had released.
+/// What a flusher told its board is what its node's durable inputs say. So it is at the start, where `opened_board` made the
+/// board of what the desk knew, and so behind each round that `Flusher::flush_round` tells of; a round that tells of none
+/// told the board nothing. A leader by any beginning of it, as a reader saw one, is the first that the history knows for the
+/// key, whatever was retired.
+pub fn told_to_a_board<V: Device>()
+    ensures opens { (desk : DeskKept) (past : List Input) (list : List Notice) → IsContent desk.view.member.node (durable_in (seen past desk).state) list
+        → IsTold (record { member = desk.view.member; opening = desk.opening; past = past; known = durable_part desk }) list }
+    ensures goes_on { (life : Life) (told : List Notice) (old new : V) (behind : Durable) (landed : Landed) → IsPast life.member life.opening life.past → IsTold life told
+        → IsRound V.disk V.clock V.left_since life.member life.opening old new life.known behind landed → IsTold (record life { known = behind }) (told ++ landed.notices.items) }
+    ensures says { (life : Life) (told seen : List Notice) (key : Key) (c : Candidate) → IsTold life told → IsPrefix seen told → leader_in seen key ≡ Some c
+        → first_leader life.member.node (history_of life) key ≡ Some c }
+{}
+
+/// All leaders that the nodes of a ring of running hubs named for a key, in these lives or in earlier ones, are one candidate:
+/// in replies of `Hub::redeem_wait` whose tokens their flushers cover, and in those of readers of their boards who saw what
+/// their flushers cover; as the leader of the key, or of the latest term of its group. It stands in its node's durable
+/// inputs, and every other candidate that stands for the key in some node's is less. Of the links this is asked: each message
+/// that a node took came in a packet that the node before had released.
 pub fn one_leader()
     ensures same { (n : ℕ) (lives : ℕ → Life) (key : Key) (c d : Candidate) → AreLives n lives → AreFromReleased n lives
         → IsNamed n lives key c → IsNamed n lives key d → c ≡ d }

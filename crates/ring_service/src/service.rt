@@ -1,9 +1,10 @@
 //! A service over a hub and the board of its node.
 ghost use Rattle.std.specs.Prelude.{◌≡◌, false, Some, None, is_some, IfErr, IfOk, IfSome};
 ghost use Rattle.ring_records.specs.Message.{is_outside};
+ghost use Rattle.decision_board.specs.Boards.{seen};
 
 use commit_hub::{Begun, Hub, Node, Share};
-use decision_board::{BoardReader, Naming};
+use decision_board::{BoardReader, Naming, Told};
 use group_commit::Stub;
 use ring_records::{Bid, GroupName, Key, Refusal, Reply, Request, Term};
 use sessions::Service;
@@ -54,6 +55,13 @@ impl<'a, R, J: Naming, A: Node> HubService<'a, R, J, A> {
             Some((stub, _)) => Some(stub),
             None => None,
         }
+    }
+
+    /// What its reader of the board saw last, by which its last read was answered. The flusher of its hub covers it.
+    pub fn saw(&self) -> Told<J>
+        ensures { result ≡ seen (reader_of self.now) }
+    {
+        self.reader.saw()
     }
 
     /// Ends it. The last stub comes with the token of what its reply rests on.
