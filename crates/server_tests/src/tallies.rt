@@ -188,6 +188,16 @@ fn carry(rt: &impl Abort, no: u64) -> Packet {
     }
 }
 
+/// Node 1 of three sends what is at this index of what landed there.
+fn sends<R: Abort + Wait>(rt: &R, post: &Post, landed: &Landed, index: usize) {
+    let first = RingPlace {
+        node: NodeNo::first(),
+        nodes: 3,
+    };
+    let letter = Letter::of_landed(first, landed, index).expect(rt, "a letter");
+    post.send(rt, letter);
+}
+
 #[test]
 fn letters_wait_at_the_node_that_they_were_sent_to(rt: HostRuntime) -> Result<(), Fail> {
     let (post, _inboxes) = Post::new(rt.alloc(), 3)?;
@@ -196,13 +206,8 @@ fn letters_wait_at_the_node_that_they_were_sent_to(rt: HostRuntime) -> Result<()
     landed.packets.push(carry(&rt, 1))?;
     // for a credit nobody waits
     landed.packets.push(Packet::Credit { upto: 1 })?;
-    let first = RingPlace {
-        node: NodeNo::first(),
-        nodes: 3,
-    };
     for index in 0..3 {
-        let letter = Letter::of_landed(first, &landed, index).expect(&rt, "a letter");
-        post.send(&rt, letter);
+        sends(&rt, &post, &landed, index);
     }
     post.done(NodeNo::new(2).expect(&rt, "a node"));
     for (number, count) in [(1, 0), (2, 1), (3, 0)] {

@@ -1,5 +1,5 @@
 // What is told of a ring.
-use crate::rows::{known, lead, node, nodes_in};
+use crate::rows::{IDENTITY, known, lead, node, nodes_in, ring_of};
 use ring_records::NodeNo;
 use ring_status::{
     Condition, Process, RingStatus, are_well, can_elect, health_text, latest_json, leaders_json,
@@ -104,16 +104,8 @@ fn doors(rt: HostRuntime) -> Result<(), Fail> {
 fn status(rt: HostRuntime) -> Result<(), Fail> {
     let mut nodes = Vec::new(rt.alloc());
     nodes.push(node(&rt, rt.alloc(), 2, Condition::Limit)?)?;
-    let ring = RingStatus {
-        version: "0.1.0",
-        ring: Some("00112233445566778899aabbccddeeff"),
-        dir: "a\"b",
-        started: 1_700_000_000,
-        words: "--always --idle 5",
-        idle: 5,
-        nodes: &nodes,
-        doorless: &[NodeNo::first()],
-    };
+    let doorless = [NodeNo::first()];
+    let ring = ring_of(IDENTITY, "a\"b", "--always --idle 5", &nodes, &doorless);
     assert!(rt;
         status_json(rt.alloc(), &ring)?.as_str()
             == "{\"dir\":\"a\\\"b\",\"doorless\":[1],\"idle\":5,\"nodes\":[{\"elections\":18,\"journal\":{\"batches\":5,\"capacity\":65536,\"checkpoints\":13,\"durable\":29,\
@@ -125,24 +117,20 @@ fn status(rt: HostRuntime) -> Result<(), Fail> {
     Ok(())
 }
 
-/// A ring of this identity, of which nothing else is told.
-fn ring_of<'a>(ring: Option<&'a str>) -> RingStatus<'a> {
-    RingStatus {
+#[test]
+fn no_identity(rt: HostRuntime) -> Result<(), Fail> {
+    let ring = RingStatus {
         version: "0.1.0",
-        ring,
+        ring: None,
         dir: "a",
         started: 0,
         words: "",
         idle: 0,
         nodes: &[],
         doorless: &[],
-    }
-}
-
-#[test]
-fn no_identity(rt: HostRuntime) -> Result<(), Fail> {
+    };
     assert!(rt;
-        status_json(rt.alloc(), &ring_of(None))?.as_str()
+        status_json(rt.alloc(), &ring)?.as_str()
             == "{\"dir\":\"a\",\"doorless\":[],\"idle\":0,\"nodes\":[],\"ring\":null,\"started\":0,\
          \"version\":\"0.1.0\",\"words\":\"\"}"
     );
@@ -181,7 +169,7 @@ fn metrics(rt: HostRuntime) -> Result<(), Fail> {
     nodes.push(node(&rt, rt.alloc(), 2, Condition::Full)?)?;
     let ring = RingStatus {
         version: "0.1.0",
-        ring: Some("00112233445566778899aabbccddeeff"),
+        ring: Some(IDENTITY),
         dir: "state",
         started: 1_700_000_000,
         words: "--always --idle 5",

@@ -1,8 +1,8 @@
 // What people are told of a ring.
-use crate::rows::{known, lead, nodes_in};
+use crate::rows::{IDENTITY, known, lead, nodes_in, ring_of};
 use ring_page::{group_page, push_escaped, ring_page};
 use ring_records::NodeNo;
-use ring_status::{Condition, RingStatus};
+use ring_status::Condition;
 use std::process::Abort;
 use std::test::Fail;
 
@@ -39,16 +39,8 @@ fn a_ring(rt: HostRuntime) -> Result<(), Fail> {
         rt.alloc(),
         &[Condition::Well, Condition::Limit, Condition::Hangs],
     )?;
-    let ring = RingStatus {
-        version: "0.1.0",
-        ring: Some("00112233445566778899aabbccddeeff"),
-        dir: "a<b",
-        started: 1_700_000_000,
-        words: "--always",
-        idle: 5,
-        nodes: &nodes,
-        doorless: &[NodeNo::first()],
-    };
+    let doorless = [NodeNo::first()];
+    let ring = ring_of(IDENTITY, "a<b", "--always", &nodes, &doorless);
     let leads = [lead(&rt, "blue", 7, 3, 2), lead(&rt, "red", 5, 10, 1)];
     // a day, an hour, a minute and a second later
     let page = ring_page(rt.alloc(), &ring, 1_700_090_061, &leads, true)?;

@@ -2,10 +2,33 @@
 use ring_records::{Bid, Candidate, Decision, GroupName, Key, NodeNo, Shown, Term};
 use ring_status::{
     Bound, CommitTimes, Condition, Counts, Holder, Holding, Letters, NodeStatus, Place,
-    RefusalCount, WithinCount,
+    RefusalCount, RingStatus, WithinCount,
 };
 use std::alloc::{AllocError, Global};
 use std::process::Abort;
+
+/// The identity of a ring.
+pub const IDENTITY: &str = "00112233445566778899aabbccddeeff";
+
+/// A ring of this identity and of these nodes, of which some have no door free.
+pub fn ring_of<'a>(
+    ring: &'a str,
+    dir: &'a str,
+    words: &'a str,
+    nodes: &'a [NodeStatus],
+    doorless: &'a [NodeNo],
+) -> RingStatus<'a> {
+    RingStatus {
+        version: "0.1.0",
+        ring: Some(ring),
+        dir,
+        started: 1_700_000_000,
+        words,
+        idle: 5,
+        nodes,
+        doorless,
+    }
+}
 
 /// What a node holds, and what its threads counted, with numbers that differ from each other.
 pub const HELD: Holding = Holding {
