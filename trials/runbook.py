@@ -71,7 +71,8 @@ def main() -> int:
     if len(sys.argv) > 2:
         print("runbook.py [PACKAGE.deb]", file=sys.stderr)
         return 2
-    with tempfile.TemporaryDirectory() as folder:
+    # not in /tmp, which the system that is booted has of its own
+    with tempfile.TemporaryDirectory(dir=HERE.parent / "bin") as folder:
         package = sys.argv[1] if len(sys.argv) == 2 else subprocess.run(
             [HERE.parent / "packaging" / "deb.sh", folder], capture_output=True, text=True, check=True).stdout.strip()
         steps = pathlib.Path(folder, "steps.sh")
