@@ -33,7 +33,6 @@ fn all_that_happens(rt: HostRuntime) -> Result<(), Fail> {
         "ringd: node 1: session at door 0\n",
         "ringd: node 1: red retired below 5\n",
         "ringd: node 1: session at door 0 ended\n",
-        "ringd: node 2: session at door 0\n",
     ] {
         assert!(&rt; told.contains(line), "{line}");
     }
