@@ -19,6 +19,7 @@
 # fuzz: both programs, given what nobody would give them; FUZZ has words of trials/fuzz.py.
 # unit: as root, the units of bin/ringd in a systemd that is booted in namespaces of its own: started, stopped, refused.
 # hosts: as root, workers on four hosts take turns at a lock, while holders are killed, paused and cut off; turns: four workers on one host, over bin/ringd.
+# lost_host: as root, the host of bin/ringd, whose folder is on a disk of the network, is cut off, fenced and lost, and another one goes on.
 # runbook: as root, the commands of the runbook in docs/OPERATING.md, from top to bottom, with the Debian package.
 # alerts: each alert is fired by what bin/ringd tells, for promtool.
 # copies: cinoweta backup copies the folder of bin/ringd under load, and each copy is started and asked.
@@ -30,7 +31,7 @@
 # load: bin/ringd under load; LOAD has further words of bench/load.py.
 .PHONY: run test rows wrong_bodies bench clean always
 .PHONY: ringd install serve fencing clients picture pictures kills years earlier load short threads scrapes writeback syncs fuzz faults growths hangs flips
-.PHONY: starts docs unit copies alerts deb runbook full uses hosts turns
+.PHONY: starts docs unit copies alerts deb runbook full uses hosts turns lost_host
 
 ROWS = $(patsubst %/stdin,%,$(wildcard crates/*_rows/stdin))
 
@@ -164,6 +165,9 @@ runbook: bin/ringd
 
 hosts: bin/ringd
 	@trials/hosts.py --ringd bin/ringd
+
+lost_host: bin/ringd
+	@trials/lost_host.py --ringd bin/ringd
 
 turns: bin/ringd
 	@examples/turns.py --ringd bin/ringd

@@ -16,7 +16,7 @@ not run it. Looked at are the files that git tracks. The columns are
 
 Crates of tests and of rows and `bench` count in the first two columns alone. Below the table stands how many lines of definitions a reader
 has to believe behind a promise: those of all modules of specs/ that the file with its contract imports, and that these import; with
-`--files`, which modules these are."""
+`--files`, which modules these are. Modules named Props are left out, since they prove that a fact has one proof at most, and define nothing."""
 
 import pathlib
 import re
@@ -197,7 +197,7 @@ class Tree:
                 parts = name.split(".")
                 paths = (pathlib.PurePosixPath("crates", crate, "specs", *parts[:it]).with_suffix(".antt") for it in range(len(parts), 0, -1))
                 module = next((it for it in paths if it in self.texts), None)
-                if module and module not in seen:
+                if module and module not in seen and module.name != "Props.antt":
                     seen.add(module)
                     left.append(module)
         return seen

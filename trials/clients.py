@@ -93,12 +93,16 @@ class Client:
                 if self.rng.random() < 0.5 and self.answered != SHORT and self.exchange("bye") != "bye":
                     raise Broken("'bye' got another answer")
                 self.connection.close()
-            self.connection = socket.create_connection(("127.0.0.1", self.port), self.patience)
+            self.connection = self.open()
             self.connection.setsockopt(socket.IPPROTO_TCP, socket.TCP_NODELAY, 1)
         except OSError as error:
             raise Broken(f"no session: {error}") from None
         self.session = Session()
         self.left, self.answered = self.rng.randint(1, LINES), 0
+
+    def open(self) -> socket.socket:
+        """A connection to the node."""
+        return socket.create_connection(("127.0.0.1", self.port), self.patience)
 
     def exchange(self, line: str) -> str:
         """The answer to a line. A part of one is none."""

@@ -35,7 +35,7 @@ HERE = os.path.dirname(os.path.abspath(__file__))
 sys.path.insert(0, HERE)
 import journal
 from clients import Client, start
-from known import MANY, Known
+from known import MANY, Known, Question
 
 # How long, in seconds, a step of ringd is waited for before that counts as a fault: a start, an answer.
 PATIENCE = 60.0
@@ -154,7 +154,7 @@ class Trial:
             again = ring.known.questions(node, self.rng)
             for door in range(self.doors):
                 rng = random.Random(f"{self.seed} {self.rounds} {node} {door}")
-                clients.append(Client(ring.known, node, ring.port + node - 1, again[door::self.doors], rng, PATIENCE))
+                clients.append(self.client(ring, node, door, again[door::self.doors], rng))
         threads = start(clients, kind == "look")
         if kind != "asked again":
             for client in clients:
@@ -165,10 +165,18 @@ class Trial:
             ring.known.fault(ring.why(self.process, "ended by itself"))
         for client in clients:
             client.is_killed = True
-        self.process.kill()
-        self.process.wait()
+        self.end(ring, clients)
         for thread in threads:
             thread.join()
+
+    def client(self, ring: Ring, node: int, door: int, again: list[Question], rng: random.Random) -> Client:
+        """The client of the node that is for this door."""
+        return Client(ring.known, node, ring.port + node - 1, again, rng, PATIENCE)
+
+    def end(self, ring: Ring, clients: list[Client]) -> None:
+        """Kills ringd, while these ask."""
+        self.process.kill()
+        self.process.wait()
 
     def round(self, ring: Ring, last: bool) -> None:
         """One round, or the last look at a folder, which no kill ends before all that is known was asked again."""
@@ -203,11 +211,15 @@ class Trial:
         self.go_on(ring, min(rounds, ring.rounds))
         self.look(ring)
 
+    def ring(self, folder: str) -> Ring:
+        """The ring of a folder that is new."""
+        return Ring(self.ringd, folder, self.doors, self.capacity, self.rng)
+
     def folder(self, rounds: int) -> None:
         """So many rounds at most, over a folder of their own."""
         folder, is_kept = tempfile.mkdtemp(prefix="ringd-kill-"), False
         try:
-            ring = Ring(self.ringd, folder, self.doors, self.capacity, self.rng)
+            ring = self.ring(folder)
             known = ring.known
             self.course(ring, rounds)
             self.checkpoints += ring.checkpoints()

@@ -23,13 +23,13 @@ var (
 	numberLast = regexp.MustCompile(`(^|\.)[0-9]+\.?$`)
 )
 
-// isAddress tells whether a text is an IPv4 address.
+// isAddress tells whether a text is an IPv4 or IPv6 address, without brackets and without a zone.
 func isAddress(text string) bool {
 	address, err := netip.ParseAddr(text)
-	return err == nil && address.Is4()
+	return err == nil && address.Zone() == ""
 }
 
-// isHost tells whether a text is an IPv4 address or a name.
+// isHost tells whether a text is an address or a name.
 func isHost(text string) bool {
 	return isAddress(text) || len(text) <= longestName && nameText.MatchString(text) && !numberLast.MatchString(text)
 }
@@ -39,13 +39,22 @@ func requireHost(host string) error {
 	if host == "" || isHost(host) {
 		return nil
 	}
-	return &WrongRingError{fmt.Sprintf("%q is no IPv4 address and no name of a host", host)}
+	return &WrongRingError{fmt.Sprintf("%q is no IP address and no name of a host", host)}
 }
 
-// isOwn tells whether it is an address of this host alone, one of 127.0.0.0/8, as where none is told.
+// isOwn tells whether it is an address of this host alone, ::1 or one of 127.0.0.0/8, as where none is told.
 func isOwn(host string) bool {
-	host = hostOf(host)
-	return isAddress(host) && strings.HasPrefix(host, "127.")
+	address, err := netip.ParseAddr(hostOf(host))
+	return err == nil && address.IsLoopback()
+}
+
+// withinBrackets is the host that stands before a port as [::1], where it is an IPv6 address, or as it is.
+func withinBrackets(text string) (string, error) {
+	host := strings.TrimSuffix(strings.TrimPrefix(text, "["), "]")
+	if host == "" || text != host && text != "["+host+"]" || (text != host) != strings.Contains(text, ":") {
+		return "", &WrongRingError{fmt.Sprintf("%q is no IP address and no name of a host", text)}
+	}
+	return host, requireHost(host)
 }
 
 // hostOf is the host, or this one where none is told, or localhost is. No other name is looked up for that: it may be one

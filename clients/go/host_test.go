@@ -2,6 +2,7 @@ package cinoweta
 
 import (
 	"context"
+	"net"
 	"net/http"
 	"strings"
 	"testing"
@@ -24,7 +25,7 @@ func TestWhatIsAHost(t *testing.T) {
 		same(t, []any{ring.Host, ring.first, ring.Nodes()}, []any{host, 7101, 3})
 	}
 	for _, host := range []string{"", ".", "-", "10.0.0", "10.0.0.256", "10.0.0.05", "10.0.0.5.", "10.0.0.5.6", "10", "a.5", "a..b",
-		".a", "a-", "-a.b", "a_b", "a b", "ä", "1.٢.3.4", "a\n", "[::1]", "::1", "10.0.0.5/8", "a@b", strings.Repeat("a", 64),
+		".a", "a-", "-a.b", "a_b", "a b", "ä", "1.٢.3.4", "a\n", "10.0.0.5/8", "a@b", strings.Repeat("a", 64),
 		parts + "ccc"} {
 		_, err := ParseRing(host + ":7101-7103")
 		as[*WrongRingError](t, err)
@@ -40,7 +41,60 @@ func TestWhatIsAHost(t *testing.T) {
 		as[*WrongRingError](t, err)
 	}
 	_, err := ParseRing("10.0.0.256:7101-7103")
-	same(t, err, `cinoweta: "10.0.0.256" is no IPv4 address and no name of a host`)
+	same(t, err, `cinoweta: "10.0.0.256" is no IP address and no name of a host`)
+}
+
+func TestWhatIsAnAddressOfIPv6(t *testing.T) {
+	for _, host := range []string{"::1", "::", "fd00::0:5", "2001:DB8::1", "::ffff:10.0.0.5"} {
+		ring, err := ParseRing("[" + host + "]:7101-7103")
+		must(t, err)
+		same(t, []any{ring.Host, ring.first, ring.address(2)}, []any{host, 7101, "[" + host + "]:7102"})
+		// Else its last part would be a port, or none.
+		_, err = ParseRing(host + ":7101-7103")
+		as[*WrongRingError](t, err)
+		t.Setenv("CINOWETA_RING", "["+host+"]:7101-7103")
+		for _, text := range []string{"7100", "[" + host + "]:7100"} {
+			t.Setenv("CINOWETA_STATUS", text)
+			ring, err = RingFromEnv()
+			must(t, err)
+			same(t, []any{ring.Host, ring.Status}, []any{host, 7100})
+		}
+	}
+	for _, host := range []string{":", ":::", "::1::", "1:2:3:4:5:6:7", "1:2:3:4:5:6:7:8:9", "::g", "::12345", "fe80::1%lo", "::1 ",
+		"[::1]", "10.0.0.5", "ring", ""} {
+		_, err := ParseRing("[" + host + "]:7101-7103")
+		as[*WrongRingError](t, err)
+	}
+	for _, text := range []string{"[::1:7101-7103", "::1]:7101-7103", "[::1]7101-7103"} {
+		_, err := ParseRing(text)
+		as[*WrongRingError](t, err)
+	}
+	same(t, []bool{isOwn("::1"), isOwn("::"), isOwn("fd00::5")}, []bool{true, false, false})
+}
+
+func TestARingAtAnAddressOfIPv6(t *testing.T) {
+	listener, err := net.Listen("tcp", "[::1]:0")
+	if err != nil {
+		t.Skip("this host has no IPv6")
+	}
+	must(t, listener.Close())
+	votes := newVotes().lead(20, 2, 30)
+	ring, _ := besideAt(t, "::1", votes.answer, votes.answer)
+	election, err := ring.Campaign(background(t), "red", short(CampaignOptions{Gone: 20}))
+	must(t, err)
+	same(t, []any{election.IsMine, ring.within(time.Second).Host}, []any{true, "::1"})
+	ring.Status = statusAt(t, "::1", pages{"/health": {http.StatusServiceUnavailable, "node 2 failed\n"}})
+	faults, err := Health(background(t), "::1", ring.Status)
+	must(t, err)
+	same(t, faults, []string{"node 2 failed"})
+	_, err = Health(background(t), "::1", 1)
+	same(t, as[*NoAnswerError](t, err).Address, "[::1]:1/health")
+	fresh := newVotes()
+	ring, _ = besideAt(t, "::1", fresh.at(1), fresh.at(2))
+	must(t, lockOf(t, ring, LockOptions{}).Acquire(background(t)))
+	holder, isHeld, err := ring.Holder(background(t), "red", 0)
+	must(t, err)
+	same(t, []any{isHeld, holder.Term}, []any{true, 1})
 }
 
 func TestARingIsOfThisHostWhereNoneIsTold(t *testing.T) {

@@ -162,13 +162,18 @@ func (k *keeper) stand(held []*stand) error {
 		_, err := k.session.ask(k.over, "latest "+held[0].group, patience)
 		return err
 	}
+	return inParts(all, k.standAtOnce)
+}
+
+// inParts hands these on, at most standsAtOnce at a time, up to the first fault.
+func inParts[T any](all []T, tell func(some []T) error) error {
 	for len(all) > 0 {
 		some := all
 		if len(some) > standsAtOnce {
 			some = all[:standsAtOnce]
 		}
 		all = all[len(some):]
-		if err := k.standAtOnce(some); err != nil {
+		if err := tell(some); err != nil {
 			return err
 		}
 	}

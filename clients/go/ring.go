@@ -37,8 +37,8 @@ var (
 // a time, which ends where nothing is asked for half a second; where one breaks off, of the next node, until Timeout is
 // over: then a [NoAnswerError]. A Stand stays with its node. Goroutines may share a Ring; one waits for the other.
 type Ring struct {
-	// Host is the IPv4 address or the name of the host; 127.0.0.1 where it is "". Else whatever is asked gives a
-	// [WrongRingError].
+	// Host is the address of the host, of IPv4 or IPv6, or its name; 127.0.0.1 where it is "". Else whatever is asked gives
+	// a [WrongRingError].
 	Host string
 	// Timeout is how long a question is asked; DefaultTimeout where it is 0.
 	Timeout time.Duration
@@ -69,20 +69,22 @@ func newRing(first, nodes int) *Ring {
 	return &Ring{first: first, nodes: nodes, turn: make(chan struct{}, 1), place: 1}
 }
 
-// ParseRing gives the ring of a text as 7101-7103, or as 10.0.0.5:7101-7103 where it is one of another host.
+// ParseRing gives the ring of a text as 7101-7103, or as 10.0.0.5:7101-7103 or [fd00::5]:7101-7103 where it is one of
+// another host.
 func ParseRing(text string) (*Ring, error) {
-	host, behind, hasHost := strings.Cut(text, ":")
-	if !hasHost {
-		host, behind = ownHost, text
+	before, behind := ownHost, text
+	if at := strings.LastIndex(text, ":"); at >= 0 {
+		before, behind = text[:at], text[at+1:]
 	}
 	ports, isSo := numbers(portsText, behind)
-	if !isSo || host == "" {
+	if !isSo || before == "" {
 		return nil, &WrongRingError{fmt.Sprintf("%q: a ring is told as 7101-7103, or as 10.0.0.5:7101-7103", text)}
 	}
 	ring, err := NewRing(ports[0], ports[1])
-	if err == nil {
-		err = requireHost(host)
+	if err != nil {
+		return nil, err
 	}
+	host, err := withinBrackets(before)
 	if err != nil {
 		return nil, err
 	}
@@ -101,7 +103,7 @@ func RingFromEnv() (*Ring, error) {
 	if text == "" {
 		return ring, nil
 	}
-	port, err := strconv.ParseUint(strings.TrimPrefix(text, ring.Host+":"), 10, 16)
+	port, err := strconv.ParseUint(strings.TrimPrefix(text, strings.TrimSuffix(address(ring.Host, 0), "0")), 10, 16)
 	if err != nil {
 		wrong := &WrongRingError{fmt.Sprintf("%q is no port of %s", text, ring.Host)}
 		return nil, fmt.Errorf("CINOWETA_STATUS: %w", wrong)

@@ -177,15 +177,8 @@ func (s *shower) tell(all []*shown) error {
 	if len(fresh) == 0 {
 		return s.ask(all[0])
 	}
-	for len(fresh) > 0 {
-		some := fresh
-		if len(some) > standsAtOnce {
-			some = fresh[:standsAtOnce]
-		}
-		fresh = fresh[len(some):]
-		if err := s.tellAtOnce(some); err != nil {
-			return err
-		}
+	if err := inParts(fresh, s.tellAtOnce); err != nil {
+		return err
 	}
 	s.rests = s.times.rest
 	return nil

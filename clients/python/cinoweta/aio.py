@@ -92,7 +92,8 @@ class AsyncRing(Asking):
 
     @classmethod
     def parse(cls, text: str, *, timeout: float = 10.0, status: int | None = None) -> "AsyncRing":
-        """The ring of a text as `7101-7103`, or as `10.0.0.5:7101-7103` where it is one of another host."""
+        """The ring of a text as `7101-7103`, or as `10.0.0.5:7101-7103` or `[fd00::5]:7101-7103` where it is one of
+        another host."""
         host, first, last = ports_of(text)
         return cls(first, last, host=host, timeout=timeout, status=status)
 

@@ -8,7 +8,7 @@ from typing import Any, NoReturn, Protocol, TypeVar
 
 from . import status as told
 from .errors import FAILED, AlreadyStands, NoAnswer, Retired, WrongRing, refusal
-from .host import OWN, require
+from .host import OWN, address, require, within_brackets
 from .kinds import Leader, Led
 from .link import Link
 from .looks import Looks
@@ -54,8 +54,8 @@ class Asking:
         self.gate = self.new_gate()
 
     def __repr__(self) -> str:
-        told = "" if self.status is None else f", status={self.status}"
-        return f"{type(self).__name__}({self.first}, {self.ports[-1]}, host={self.host!r}{told})"
+        status = "" if self.status is None else f", status={self.status}"
+        return f"{type(self).__name__}({self.first}, {self.ports[-1]}, host={self.host!r}{status})"
 
     def new_gate(self) -> Gate:
         raise NotImplementedError
@@ -111,7 +111,7 @@ class Asking:
         return self.deadline - time.monotonic()
 
     def where(self, path: str) -> str:
-        return f"{self.host}:{self.status}{path}"
+        return f"{address(self.host, self.status)}{path}"
 
     async def do_stand(self, group: str, term: int, bid: int, node: int) -> None:
         line = f"stand {group} {term} {bid}"
@@ -196,7 +196,7 @@ class Asking:
                 if node is None:
                     self.pass_by()
                 if time.monotonic() + pause > until:
-                    where = f"{self.host}:{self.first + place - 1}"
+                    where = address(self.host, self.first + place - 1)
                     raise NoAnswer(f"{where}: {fault or type(fault).__name__}") from None
             except BaseException:
                 if line.startswith("stand "):
@@ -221,8 +221,9 @@ class Asking:
 
 
 def ports_of(text: str) -> tuple[str, int, int]:
-    """The host and the ports of a text as `7101-7103`, or as `10.0.0.5:7101-7103` where they are those of another one."""
-    words = re.fullmatch(r"(?:([^:]*):)?(\d{1,5})-(\d{1,5})", text, re.ASCII)
+    """The host and the ports of a text as `7101-7103`, or as `10.0.0.5:7101-7103` or `[fd00::5]:7101-7103` where they are those
+    of another one."""
+    words = re.fullmatch(r"(?:(.*):)?(\d{1,5})-(\d{1,5})", text, re.ASCII)
     if words is None:
         raise WrongRing(f"{text}: a ring is told as 7101-7103, or as 10.0.0.5:7101-7103")
-    return OWN if words[1] is None else words[1], int(words[2]), int(words[3])
+    return OWN if words[1] is None else within_brackets(words[1]), int(words[2]), int(words[3])

@@ -1,4 +1,5 @@
 """Hosts, and how they are told."""
+import contextlib
 import re
 import socket
 
@@ -15,30 +16,47 @@ LONGEST = 253
 
 
 def require(host: str) -> str:
-    """The host, which is an IPv4 address or a name; else `WrongRing`."""
-    if ADDRESS.fullmatch(host) is None and (len(host) > LONGEST or NAME.fullmatch(host) is None):
-        raise WrongRing(f"{host!r} is no IPv4 address and no name of a host")
-    return host
+    """The host, which is an IPv4 or IPv6 address or a name, without brackets; else `WrongRing`."""
+    if ":" in host:
+        with contextlib.suppress(OSError, ValueError):
+            return socket.inet_ntop(socket.AF_INET6, socket.inet_pton(socket.AF_INET6, host))
+    elif ADDRESS.fullmatch(host) is not None or len(host) <= LONGEST and NAME.fullmatch(host) is not None:
+        return host
+    raise WrongRing(f"{host!r} is no IP address and no name of a host")
+
+
+def within_brackets(text: str) -> str:
+    """The host that stands before a port as `[::1]`, where it is an IPv6 address, or as it is; else `WrongRing`."""
+    is_bracketed = text.startswith("[") and text.endswith("]")
+    if is_bracketed != (":" in text):
+        raise WrongRing(f"{text!r} is no IP address and no name of a host")
+    return require(text[1:-1] if is_bracketed else text)
+
+
+def address(host: str, port: object) -> str:
+    """As a host and a port are told: `10.0.0.5:7100`, `[::1]:7100`."""
+    return f"[{host}]:{port}" if ":" in host else f"{host}:{port}"
 
 
 def is_own(host: str) -> bool:
-    """Whether it is this host alone: an address of 127.0.0.0/8, or `localhost`. No other name is looked up for that: it
-    may be one of 127.0.0.0/8 on its own host, and another address elsewhere."""
-    is_address = host.startswith("127.") and ADDRESS.fullmatch(host) is not None
+    """Whether it is this host alone: an address of 127.0.0.0/8, `::1`, or `localhost`. No other name is looked up for that:
+    it may be one of 127.0.0.0/8 on its own host, and another address elsewhere."""
+    is_address = host == "::1" or host.startswith("127.") and ADDRESS.fullmatch(host) is not None
     return is_address or host.lower().rstrip(".") == "localhost"
 
 
 def addresses(host: str) -> set[str]:
-    """Its IPv4 addresses; none where it is not found."""
+    """Its addresses; none where it is not found."""
     try:
-        return {found[4][0] for found in socket.getaddrinfo(host, None, socket.AF_INET)}
+        return {str(found[4][0]) for found in socket.getaddrinfo(host, None)}
     except OSError:
         return set()
 
 
 def place(text: str, host: str) -> tuple[str, int]:
-    """The host and the port of a text as `10.0.0.5:7100`; a port alone is one of this host. Else `WrongRing`."""
-    words = re.fullmatch(r"(?:([^:]*):)?(\d{1,5})", text, re.ASCII)
+    """The host and the port of a text as `10.0.0.5:7100` or `[::1]:7100`; a port alone is one of this host. Else
+    `WrongRing`."""
+    words = re.fullmatch(r"(?:(.*):)?(\d{1,5})", text, re.ASCII)
     if words is None or not 1 <= int(words[2]) <= 65_535:
         raise WrongRing(f"{text}: a port is told as 7100, or as 10.0.0.5:7100")
-    return host if words[1] is None else require(words[1]), int(words[2])
+    return host if words[1] is None else within_brackets(words[1]), int(words[2])

@@ -4,7 +4,8 @@ import threading
 
 from . import forks
 from .errors import CinowetaError, NoAnswer, WrongRing, refusal
-from .session import Session
+from .host import address
+from .session import Session, Teller
 
 # So often the session is asked over, so that it is not silent, and so long an answer is waited for, in seconds. So long a
 # connection is tried: the system tries again each second then, also where the host was away.
@@ -41,26 +42,17 @@ class Stand:
             self.answered.set()
 
 
-class Keeper:
+class Keeper(Teller):
     """Keeps one session open with a node, in which all Stands of this process there are told, by a thread of its own, which
     alone asks over it, and opens another one where it breaks off. It holds one of the node's doors."""
 
     def __init__(self, host: str, port: int) -> None:
         self.host, self.port = host, port
-        self.session: Session | None = None
         # The Stands that are present, or come to be; those that are so no more; and what tells that either changed.
         self.held: dict[Stand, None] = {}
         self.gone: list[Stand] = []
         self.changed = threading.Event()
-        forks.register(self)
-
-    def forget(self) -> None:
-        """In a process that was forked the session is that of the parent, whose own goes on."""
-        self.end()
-
-    def end(self) -> None:
-        if self.session is not None:
-            self.session.close()
+        super().__init__()
 
     def keep(self) -> None:
         """Goes on until nothing is held any more."""
@@ -84,7 +76,7 @@ class Keeper:
                     self.changed.set()
                 else:
                     for each in held:
-                        each.settle(NoAnswer(f"{self.host}:{self.port}: {fault or type(fault).__name__}"))
+                        each.settle(NoAnswer(f"{address(self.host, self.port)}: {fault or type(fault).__name__}"))
             if not held:
                 self.end()
             for each in gone:

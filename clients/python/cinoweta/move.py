@@ -6,7 +6,7 @@ from . import status
 from .beacon import SPREAD
 from .election import LAST
 from .errors import CinowetaError, NoAnswer, NoLeader, NoTerm, TooFar, WrongRing
-from .host import OWN, addresses
+from .host import OWN, address, addresses
 from .kinds import Led
 from .pause import Pause
 from .ring import Ring
@@ -39,7 +39,7 @@ def move(port: int, ring: Ring, *, host: str = OWN, rename: Mapping[str, str] = 
     behind it all, and before any Stand where the new one has no room, as far as its `status` port is told."""
     ports = {node.get("port") for node in status.status(port, ring.timeout, host=host)["nodes"]}
     if ports & {*ring.ports} and (host == ring.host or addresses(host) & addresses(ring.host)):
-        raise WrongRing(f"{host}:{port} tells of the new ring itself")
+        raise WrongRing(f"{address(host, port)} tells of the new ring itself")
     left = {*skip}
     moved = {group: term for group, term in terms(port, ring.timeout, host=host).items() if group not in left}
     names = new_names(moved, rename)

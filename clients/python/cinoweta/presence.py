@@ -10,6 +10,7 @@ from typing import TYPE_CHECKING
 from . import forks
 from .beacon import RANK, SPREAD, require_rank, require_text
 from .errors import CinowetaError, NoAnswer, WrongRing
+from .host import address
 from .keeper import CONNECTS, KEEPERS, SECONDS, Stand
 from .kinds import Holder
 from .link import SLICE
@@ -57,7 +58,7 @@ class Presence:
             while not stand.answered.wait(SLICE):
                 check()
                 if time.monotonic() > until:
-                    raise NoAnswer(f"{host}:{port}: timed out")
+                    raise NoAnswer(f"{address(host, port)}: timed out")
             # It may have been closed before it was added.
             check()
             if stand.fault is not None:

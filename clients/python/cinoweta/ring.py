@@ -36,7 +36,7 @@ class BlockingGate:
 
 
 class Ring(Asking):
-    """A ring: node 1 listens at the port `first` of `host`, an IPv4 address or a name, the last one at `last`. Questions
+    """A ring: node 1 listens at the port `first` of `host`, an IP address or a name, the last one at `last`. Questions
     are asked of any node, over one session at a time, which ends where nothing is asked for half a second; where one
     breaks off, of the next node, until `timeout` seconds are over: `NoAnswer`. How long a name is looked up is the system's to say. A Stand stays with its node. At the port
     `status` of the host, if any, `ringd --status` tells of the ring: then `NoLeader` says which node is not well.
@@ -51,7 +51,8 @@ class Ring(Asking):
 
     @classmethod
     def parse(cls, text: str, *, timeout: float = 10.0, status: int | None = None) -> "Ring":
-        """The ring of a text as `7101-7103`, or as `10.0.0.5:7101-7103` where it is one of another host."""
+        """The ring of a text as `7101-7103`, or as `10.0.0.5:7101-7103` or `[fd00::5]:7101-7103` where it is one of
+        another host."""
         host, first, last = ports_of(text)
         return cls(first, last, host=host, timeout=timeout, status=status)
 

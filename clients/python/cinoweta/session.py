@@ -4,6 +4,7 @@ import socket
 import threading
 import time
 
+from . import forks
 from .link import Stop
 
 # No answer of a node is as long, in bytes.
@@ -55,3 +56,20 @@ class Session:
         # In a process that was forked nobody waits for it, and a thread of the parent may have been at it.
         if self.process == os.getpid():
             self.over.set()
+
+
+class Teller:
+    """What has one session with a node, or none."""
+
+    def __init__(self) -> None:
+        self.session: Session | None = None
+        forks.register(self)
+
+    def forget(self) -> None:
+        """In a process that was forked the session is that of the parent, whose own goes on."""
+        self.end()
+
+    def end(self) -> None:
+        if self.session is not None:
+            self.session.close()
+            self.session = None

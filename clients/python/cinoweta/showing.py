@@ -7,7 +7,8 @@ import time
 
 from . import forks, status
 from .errors import AlreadyStands, Late, Refused, Retired, Stale, WrongRing, refusal
-from .session import Session
+from .host import address
+from .session import Session, Teller
 
 # So often a thread does what there is to do, in seconds, and asks over its session, so that it is not silent. A lock is
 # shown once it was held for so long: one that was given back before costs nothing. Who resigns wakes nobody: the next one
@@ -49,7 +50,7 @@ class Shown:
             raise refused or WrongRing(f"{answers[0]!r} is no answer of a node")
 
 
-class Shower:
+class Shower(Teller):
     """Shows all locks that this process holds at one node, by a thread of its own, in one session, which holds one of
     the node's doors, and only as long as it leaves another one free."""
 
@@ -58,19 +59,9 @@ class Shower:
         # Those that are held, and those that may have been shown and are held no more.
         self.held: dict[Shown, None] = {}
         self.gone: list[Shown] = []
-        self.session: Session | None = None
         # When another one is tried, how long it rests next, when was looked for doors, and in how many none was free.
         self.again, self.rests, self.looked, self.taken = 0.0, REST, 0.0, 0
-        forks.register(self)
-
-    def forget(self) -> None:
-        """In a process that was forked the session is that of the parent, whose own goes on."""
-        self.end()
-
-    def end(self) -> None:
-        if self.session is not None:
-            self.session.close()
-            self.session = None
+        super().__init__()
 
     def go_on(self) -> None:
         """Goes on until nothing is held there any more."""
@@ -137,7 +128,7 @@ class Shower:
         for node in status.status(self.status, SECONDS, host=self.host)["nodes"]:
             if node["node"] == self.node:
                 return int(node["sessions"]["doors"]) - int(node["sessions"]["busy"])
-        raise WrongRing(f"{self.host}:{self.status} tells of no node {self.node}")
+        raise WrongRing(f"{address(self.host, self.status)} tells of no node {self.node}")
 
 
 class Showers:

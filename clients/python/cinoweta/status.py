@@ -10,7 +10,7 @@ from collections.abc import Iterator
 from typing import Any, NamedTuple
 
 from .errors import NoAnswer, WrongRing
-from .host import OWN, require
+from .host import OWN, address, require
 from .link import Stop
 
 # More is read of no answer, in bytes.
@@ -39,12 +39,12 @@ def ask(host: str, port: int, path: str, seconds: float, stop: Stop = Stop()) ->
                 told += part
         return read(told)
     except (OSError, ValueError) as fault:
-        raise NoAnswer(f"{host}:{port}{path}: {fault or type(fault).__name__}") from None
+        raise NoAnswer(f"{address(host, port)}{path}: {fault or type(fault).__name__}") from None
 
 
 def question(host: str, port: int, path: str) -> bytes:
     """What asks for this path, so that the connection ends with the answer."""
-    return f"GET {path} HTTP/1.1\r\nHost: {host}:{port}\r\nConnection: close\r\n\r\n".encode()
+    return f"GET {path} HTTP/1.1\r\nHost: {address(host, port)}\r\nConnection: close\r\n\r\n".encode()
 
 
 def is_whole(told: bytes) -> bool:
@@ -86,7 +86,7 @@ class Sight(NamedTuple):
 
 def health(port: int, seconds: float = 5.0, *, host: str = OWN) -> list[str]:
     """A line for each node that is not well, as `node 3 full`; none where all are."""
-    return read_health(f"{host}:{port}/health", *ask(host, port, "/health", seconds))
+    return read_health(f"{address(host, port)}/health", *ask(host, port, "/health", seconds))
 
 
 def read_health(where: str, code: int, text: str) -> list[str]:
@@ -109,7 +109,7 @@ def leaders(port: int, node: int, seconds: float = 5.0, *, host: str = OWN,
         told = ask_rows(host, port, path, "leaders", seconds)
         rows: list[Any] = [tuple(row.get(name) for name in ("group", "term", "node", "bid")) for row in told["leaders"]]
         if not all(isinstance(row[0], str) and all(isinstance(number, int) for number in row[1:]) for row in rows):
-            raise WrongRing(f"{host}:{port}{path} tells no leaders")
+            raise WrongRing(f"{address(host, port)}{path} tells no leaders")
         yield from rows
         if not rows or not told.get("more"):
             return
@@ -120,7 +120,7 @@ def coming(port: int, group: str, above: int, seconds: int, *, host: str = OWN) 
     """The term, the node and the bid of the group's latest leader in a term above this one, for which the port waits so many seconds,
     60 at most; None where there was none."""
     path = coming_path(group, above, seconds)
-    told = read_leader(f"{host}:{port}{path}", *ask(host, port, path, seconds + 5.0), none=204)
+    told = read_leader(f"{address(host, port)}{path}", *ask(host, port, path, seconds + 5.0), none=204)
     return None if told is None else (told.term, told.node, told.bid)
 
 
@@ -132,7 +132,7 @@ def leader(port: int, group: str, node: int, seconds: float = 5.0, *, host: str 
     """The term, the node and the bid of the group's latest leader, and whether who stood so is present, by what this node knows;
     None where it knows none. Nothing rests on presence: docs/OPERATING.md says what it tells."""
     path = leader_path(group, node)
-    told = read_leader(f"{host}:{port}{path}", *ask(host, port, path, seconds), none=404)
+    told = read_leader(f"{address(host, port)}{path}", *ask(host, port, path, seconds), none=404)
     return None if told is None else (told.term, told.node, told.bid, told.is_present)
 
 
@@ -172,7 +172,7 @@ def ask_rows(host: str, port: int, path: str, name: str, seconds: float) -> dict
         told = json.loads(text)
     rows = told.get(name) if isinstance(told, dict) else None
     if code != 200 or not isinstance(rows, list) or not all(isinstance(row, dict) for row in rows):
-        raise WrongRing(f"{host}:{port}{path} answers {code}: is it that of ringd --status?")
+        raise WrongRing(f"{address(host, port)}{path} answers {code}: is it that of ringd --status?")
     return dict(told)
 
 

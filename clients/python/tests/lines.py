@@ -22,6 +22,7 @@ class Node(socketserver.ThreadingTCPServer):
         # The open sessions in which something stood, and how many may be open at once.
         self.present: set[Session] = set()
         self.doors = threading.Semaphore(1_000)
+        self.address_family = socket.AF_INET6 if ":" in host else socket.AF_INET
         super().__init__((host, port), Session)
         threading.Thread(target=self.serve_forever, args=(0.01,), daemon=True).start()
 

@@ -1,13 +1,16 @@
 """Rings of other hosts, for which 127.0.0.2 stands."""
+import asyncio
 import contextlib
 import io
 import json
+import pathlib
 import unittest
 from unittest import mock
 
-from cinoweta import Lock, NoAnswer, NoLeader, Ring, WrongRing, holder, status
+from cinoweta import Leader, Led, Lock, NoAnswer, NoLeader, Ring, WrongRing, holder, status
+from cinoweta.aio import AsyncRing
 from cinoweta.command import main
-from cinoweta.host import place
+from cinoweta.host import is_own, place
 
 from .lines import Votes
 from .test_ring import Beside, deaf
@@ -17,7 +20,12 @@ OTHER = "127.0.0.2"
 HOSTS = ["10.0.0.5", "0.0.0.0", "255.255.255.255", "localhost", "ring", "R", "ring-1.example", "1.a", "ring.example.", "4a",
          "a" * 63, ".".join(["a" * 63] * 3 + ["b" * 61])]
 NONE = ["", ".", "-", "10.0.0", "10.0.0.256", "10.0.0.05", "10.0.0.5.", "10.0.0.5.6", "10", "a.5", "a..b", ".a", "a-", "-a.b",
-        "a_b", "a b", "ä", "1.٢.3.4", "a\n", "[::1]", "10.0.0.5/8", "a@b", "a" * 64, ".".join(["a" * 63] * 3 + ["b" * 62])]
+        "a_b", "a b", "ä", "1.٢.3.4", "a\n", "10.0.0.5/8", "a@b", "a" * 64, ".".join(["a" * 63] * 3 + ["b" * 62])]
+
+# Without brackets, and none, within them too.
+ADDRESSES = {"::1": "::1", "::": "::", "fd00::0:5": "fd00::5", "2001:DB8::1": "2001:db8::1", "::ffff:10.0.0.5": "::ffff:10.0.0.5"}
+NONE_OF_IPV6 = [":", ":::", "::1::", "1:2:3:4:5:6:7", "1:2:3:4:5:6:7:8:9", "::g", "::12345", "fe80::1%lo", "::1 ", "[::1]", "::\0", "::ä"]
+HAS_IPV6 = pathlib.Path("/proc/net/if_inet6").exists() and "lo" in pathlib.Path("/proc/net/if_inet6").read_text()
 
 
 def told(*words: str) -> tuple[int, str, str]:
@@ -39,8 +47,63 @@ class HostTest(Beside, BesideStatus):
                             lambda: status.health(7100, host=host), lambda: place(f"{host}:7100", "a")):
                 with self.assertRaises(WrongRing, msg=host):
                     refused()
-        with self.assertRaisesRegex(WrongRing, "'10.0.0.256' is no IPv4 address"):
+        with self.assertRaisesRegex(WrongRing, "'10.0.0.256' is no IP address"):
             Ring.parse("10.0.0.256:7101-7103")
+
+    def test_what_is_an_address_of_ipv6(self) -> None:
+        for host, known in ADDRESSES.items():
+            rings = [Ring.parse(f"[{host}]:7101-7103"), Ring(7101, 7103, host=host)]
+            self.assertEqual([(ring.host, ring.first) for ring in rings], [(known, 7101)] * 2)
+            self.assertEqual(place(f"[{host}]:7100", "a"), (known, 7100))
+            # Else its last part would be a port, or none.
+            for refused in (lambda: Ring.parse(f"{host}:7101-7103"), lambda: place(f"{host}:7100", "a"),
+                            lambda: Ring(7101, 7103, host=f"[{host}]")):
+                with self.assertRaises(WrongRing, msg=host):
+                    refused()
+        for host in NONE_OF_IPV6:
+            for refused in (lambda: Ring.parse(f"[{host}]:7101-7103"), lambda: Ring(7101, 7103, host=host),
+                            lambda: place(f"[{host}]:7100", "a")):
+                with self.assertRaises(WrongRing, msg=host):
+                    refused()
+        for text in ("[10.0.0.5]:7101-7103", "[ring]:7101-7103", "[]:7101-7103", "[::1:7101-7103", "::1]:7101-7103", "[::1]7101-7103"):
+            with self.assertRaises(WrongRing, msg=text):
+                Ring.parse(text)
+        with self.assertRaisesRegex(WrongRing, r"'::g' is no IP address and no name"):
+            Ring(7101, 7103, host="::g")
+        self.assertEqual([is_own(host) for host in ("::1", "::", "fd00::5")], [True, False, False])
+
+    @unittest.skipUnless(HAS_IPV6, "this host has no IPv6")
+    def test_a_ring_at_an_address_of_ipv6(self) -> None:
+        votes = Votes()
+        votes.leaders[20] = (2, 30)
+        ring, _ = self.ring(votes, votes, host="::1")
+        self.assertTrue(ring.campaign("red", 20, node=1).is_mine)
+        ports = f"{ring.first}-{ring.ports[-1]}"
+        self.assertEqual(told("--ring", f"[::1]:{ports}", "who", "red", "20"), (0, "leader 2 30\n", ""))
+        votes = Votes()
+        ring, _ = self.ring(votes, votes, host="::1")
+        with mock.patch("cinoweta.election.secrets.randbelow", return_value=0), Lock(ring, "red") as held:
+            self.assertEqual((held.term, holder(ring, "red").term), (1, 1))
+        port = self.serve({"/health": (503, "node 2 failed\n"), "/status": (200, json.dumps(TOLD))}, "::1")
+        self.assertEqual(status.health(port, host="::1"), ["node 2 failed"])
+        self.assertEqual(told("status", "--port", f"[::1]:{port}")[0], 1)
+        with self.assertRaisesRegex(NoAnswer, r"\A\[::1\]:1/health: "):
+            status.health(1, host="::1")
+        ring, _ = self.ring(deaf, deaf, host="::1", timeout=0.0)
+        with self.assertRaisesRegex(NoAnswer, rf"\A\[::1\]:{ring.first}: "):
+            ring.latest("red")
+
+    @unittest.skipUnless(HAS_IPV6, "this host has no IPv6")
+    def test_it_is_asked_there_by_tasks(self) -> None:
+        async def asked() -> tuple[Led | None, list[str]]:
+            async with AsyncRing.parse(f"[::1]:{ring.first}-{ring.ports[-1]}", status=port) as same:
+                return await same.latest("red"), await same.faults()
+
+        votes = Votes()
+        votes.leaders[20] = (2, 30)
+        ring, _ = self.ring(votes, votes, host="::1")
+        port = self.serve({"/health": (503, "node 2 failed\n")}, "::1")
+        self.assertEqual(asyncio.run(asked()), (Led(20, Leader(2, 30)), ["node 2 failed"]))
 
     def test_what_is_left_out(self) -> None:
         self.assertEqual([Ring(7101, 7103).host, Ring.parse("7101-7103").host], ["127.0.0.1"] * 2)

@@ -4,6 +4,7 @@ import http.server
 import io
 import json
 import os
+import socket
 import threading
 import time
 import unittest
@@ -36,7 +37,9 @@ class Answers(http.server.BaseHTTPRequestHandler):
 
 class BesideStatus(unittest.TestCase):
     def serve(self, answers: dict[str, tuple[int, str]], host: str = "127.0.0.1") -> int:
-        server = http.server.ThreadingHTTPServer((host, 0), Answers)
+        family = socket.AF_INET6 if ":" in host else socket.AF_INET
+        kind = type("Server", (http.server.ThreadingHTTPServer,), {"address_family": family})
+        server = kind((host, 0), Answers)
         server.answers = answers
         threading.Thread(target=server.serve_forever, args=(0.01,), daemon=True).start()
         self.addCleanup(server.server_close)

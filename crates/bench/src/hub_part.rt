@@ -4,6 +4,7 @@ ghost use Rattle.gated_journal.specs.Journal.{member_of, len_of, room_of, layout
 ghost use Rattle.ring_records.specs.Admission.{used};
 ghost use Rattle.ring_records.specs.States.{durable_in};
 ghost use Rattle.node_core.specs.Core.{IsNodeOf};
+ghost use Rattle.commit_hub.specs.Desks.{is_over};
 ghost use Rattle.commit_hub.specs.Pages.{places_of, ForAccepted, ForTie};
 
 use crate::devices::{CAPACITY, in_memory, next_file};
@@ -11,7 +12,7 @@ use crate::fault::Fault;
 use crate::keys::key;
 use crate::race::sum;
 use crate::words::{next_amount, next_word, tell};
-use commit_hub::{Blanks, Hub, Node, Share};
+use commit_hub::{Blanks, Hub, NodeLedger, Share};
 use decision_board::{Board, Naming, Opened};
 use disk_model::{Device, DeviceFault};
 use gated_journal::Journal;
@@ -159,13 +160,13 @@ fn one_hub<V: Device + Drop + Send, R: Threads + Wait + Sync>(
 
 /// An appender with its share, and the number of its first key.
 #[derive(Drop)]
-struct Appender<A: Node> {
+struct Appender<A: NodeLedger> {
     share: Share<A>,
     first: u32,
 }
 
 /// The appenders of a hub, each with keys of its own.
-fn appenders<A: Node, R: Wait>(
+fn appenders<A: NodeLedger, R: Wait>(
     rt: &R,
     alloc: Global,
     hub: &Hub<A>,
@@ -183,7 +184,7 @@ fn appenders<A: Node, R: Wait>(
 }
 
 /// Stands for the key of this number, and waits for the reply. Whether the node stood.
-fn stand<A: Node, R: Wait>(
+fn stand<A: NodeLedger, R: Wait>(
     rt: &R,
     hub: &Hub<A>,
     share: &mut Share<A>,
@@ -203,7 +204,11 @@ fn question(index: u32) -> Result<Request, Refusal> {
 }
 
 /// Waits for the reply to the ticket's question. Whether the node stood.
-fn has_stood<A: Node, R: Wait>(rt: &R, hub: &Hub<A>, ticket: Ticket) -> Result<bool, Refusal> {
+fn has_stood<A: NodeLedger, R: Wait>(
+    rt: &R,
+    hub: &Hub<A>,
+    ticket: Ticket,
+) -> Result<bool, Refusal> {
     match hub.redeem_wait(rt, ticket) {
         Ok((reply, _stub, _begun)) => Ok(matches!(reply, Reply::Stood)),
         Err((ticket, refusal)) => {
@@ -214,7 +219,7 @@ fn has_stood<A: Node, R: Wait>(rt: &R, hub: &Hub<A>, ticket: Ticket) -> Result<b
 }
 
 /// Stands so often, in turn. Tells how often the node stood.
-fn append_all<A: Node, R: Wait>(
+fn append_all<A: NodeLedger, R: Wait>(
     rt: &R,
     hub: &Hub<A>,
     appender: Appender<A>,
@@ -231,7 +236,7 @@ fn append_all<A: Node, R: Wait>(
 }
 
 /// Has the appenders stand, each in a thread of its own, and closes the hub. Tells how often the node stood.
-fn append_in_threads<A: Node + Send + Sync, R: Threads + Wait + Sync>(
+fn append_in_threads<A: NodeLedger + Send + Sync, R: Threads + Wait + Sync>(
     rt: &R,
     hub: &Hub<A>,
     appenders: Vec<Appender<A>>,
@@ -248,7 +253,7 @@ fn append_in_threads<A: Node + Send + Sync, R: Threads + Wait + Sync>(
 
 /// Flushes until the hub is closed and nothing waits, or a round is refused. Where a growth is refused it goes on. Tells
 /// how many rounds there were.
-fn flush_all<V: Device, J: Naming, A: Node, R: Wait>(
+fn flush_all<V: Device, J: Naming, A: NodeLedger, R: Wait>(
     rt: &R,
     hub: &Hub<A>,
     flusher: &mut Flusher<V, J, A>,
@@ -274,7 +279,7 @@ fn flush_all<V: Device, J: Naming, A: Node, R: Wait>(
 fn on_hub<
     V: Device + Drop + Send,
     J: Naming + Send + Sync,
-    A: Node + Send + Sync,
+    A: NodeLedger + Send + Sync,
     R: Threads + Wait + Sync,
 >(
     rt: &R,
@@ -289,6 +294,8 @@ fn on_hub<
     requires desk { desk.view.member ≡ A.member }
     requires opening { desk.opening ≡ A.opening }
     requires none { desk.view.state.checkpoint ≡ None }
+    requires idle { desk.view.state.flying ≡ desk.view.state.durable }
+    requires open { is_over desk ≡ false }
     requires inside { IsNodeOf desk.view.member.n desk.view.member.node }
     requires opened { desk.opening.inputs + length desk.view.state.inputs ≡ A.opened }
     requires accepted { ForAccepted blanks A.name A.parts }
@@ -318,7 +325,7 @@ fn on_hub<
 fn on_flusher<
     V: Device + Drop + Send,
     J: Naming + Send + Sync,
-    A: Node + Send + Sync,
+    A: NodeLedger + Send + Sync,
     R: Threads + Wait + Sync,
 >(
     rt: &R,
@@ -343,7 +350,7 @@ fn on_flusher<
 fn append_beside<
     V: Device + Send,
     J: Naming + Send + Sync,
-    A: Node + Send + Sync,
+    A: NodeLedger + Send + Sync,
     R: Threads + Wait + Sync,
 >(
     rt: &R,

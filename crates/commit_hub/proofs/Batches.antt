@@ -5,7 +5,8 @@ use Rattle.ring_records.specs.declared.packet.Packet.{Packet}
 use Rattle.ring_records.specs.declared.summary.Summary.{Summary}
 use Rattle.ring_records.specs.Member.{Member}
 use Rattle.ring_records.specs.Release.{packets, notices, window}
-use Rattle.ring_records.specs.States.{NodeState, IsNodeState, IsLawfulState, launched_base, durable_in, flown_in, flying_in}
+use Rattle.ring_records.specs.States.{NodeState, launched_base, durable_in, flown_in, flying_in}
+use Rattle.ring_records.specs.Lawful.{IsNodeState, IsLawfulState}
 use Rattle.ring_records.specs.States as states
 use Rattle.group_commit.specs.declared.landed.Landed.{Landed}
 use Rattle.group_commit.specs.Desk.{DeskKept, landed, seen}

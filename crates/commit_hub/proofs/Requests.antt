@@ -1,23 +1,45 @@
 -- What a request makes of a desk and of what is counted.
-use Rattle.std.proofs.Common.{◌≡◌, ◌⊎◌, inl, inr, ℕ, ◌+◌, ◌≤◌, Bool, true, false, List, ◌++◌, [], length, take, Option, Some, None, if◌then◌else◌, refl, sym, ap, ◌∙◌, arith, length-append}
-use Rattle.std.proofs.lemmas.List.{take-append-le}
+use Rattle.std.proofs.Common.{◌≡◌, ◌⊎◌, inl, inr, ℕ, ◌+◌, ◌-◌, ◌≤◌, Bool, true, false, List, ◌++◌, [], length, take, drop, Option, Some, None, if◌then◌else◌, refl, sym, ap, ◌∙◌, arith, length-append}
+use Rattle.std.proofs.lemmas.List.{drop-append-le, length-drop, take-append-le}
 use Rattle.std.proofs.lemmas.Option.{same_Some}
 use Rattle.std.specs.List.{cons_option}
+use Rattle.std.specs.Option.{option_map}
 use Rattle.std.specs.Prelude.{nat_le, ◌||◌, ◌^◌}
+use Rattle.ring_records.specs.declared.base.Base.{Base}
 use Rattle.ring_records.specs.declared.input.Input.{Input}
 use Rattle.ring_records.specs.declared.refusal.Refusal.{Refusal}
 use Rattle.ring_records.specs.declared.refusal.Refusal.TheVariants as refused
 use Rattle.ring_records.specs.declared.request.Request.{Request}
-use Rattle.ring_records.specs.States.{NodeState, IsNodeState, durable_in}
+use Rattle.ring_records.specs.States.{NodeState, durable_in}
+use Rattle.ring_records.specs.Lawful.{IsNodeState}
 use Rattle.ring_records.specs.Message.{is_outside}
 use Rattle.ring_records.proofs.Lists.{none≢some}
 use Rattle.group_commit.specs.Desk.{DeskView, DeskKept, IsSealed, IsSubmitted, objection}
 use Rattle.group_commit.specs.Ticket.{TicketView}
+use Rattle.gated_journal.specs.Batch.{numbered_with}
+use Rattle.commit_hub.specs.Desks.{flying_part}
 use Rattle.commit_hub.specs.Told.{IsUnasked}
 
 -- the durable inputs stay where more come behind
 pub durable_stays : (s : NodeState) (more : List Input) → IsNodeState s → take s.durable (s.inputs ++ more) ≡ durable_in s
 durable_stays s more counts = take-append-le s.durable s.inputs more (omega (arith, counts.durable, counts.flying))
+
+-- so do those that fly
+pub flying_stays : (d : DeskKept) (more : List Input) → IsNodeState d.view.state
+    → flying_part (record d { view = record d.view { state = record d.view.state { inputs = d.view.state.inputs ++ more } } }) ≡ flying_part d
+flying_stays d more counts =
+    let s = d.view.state in
+    let behind : drop s.durable (s.inputs ++ more) ≡ drop s.durable s.inputs ++ more = drop-append-le s.durable s.inputs more (omega (arith, counts.durable, counts.flying)) in
+    let fly = take-append-le (s.flying - s.durable) (drop s.durable s.inputs) more (omega (arith, counts.durable, counts.flying, length-drop s.durable s.inputs)) in
+    ap (λ (l : List Input). numbered_with d.view.member.node (d.opening.inputs + s.durable) l (option_map (λ (b : Base). b.bytes) s.checkpoint)) (ap (take (s.flying - s.durable)) behind ∙ fly)
+
+-- a desk to which nothing is against a request takes requests
+pub takes_requests : (v : DeskView) (q : Request) → objection v q ≡ None → (v.closed || v.failed) ≡ false
+takes_requests v q e = go (v.closed || v.failed) e
+  where
+    go : (over : Bool) → (if over then Some refused.Failed else (if is_outside v.member.n q then Some refused.BadNumber else (if nat_le (2 ^ 60) v.issued then Some refused.Limit else None))) ≡ None → over ≡ false
+    go true e = none≢some refused.Failed (sym e)
+    go false e = refl
 
 -- the inputs of a desk that gave a ticket
 more_inputs : (q : Request) (old new : DeskKept) (ticket : TicketView) (s : IsSubmitted q old new ticket) → new.view.state.inputs ≡ old.view.state.inputs ++ cons_option s.more []

@@ -8,12 +8,15 @@ use Rattle.ring_records.specs.declared.input.Input.{Input}
 use Rattle.ring_records.specs.declared.summary.Summary.{Summary}
 use Rattle.ring_records.specs.Known.{after}
 use Rattle.ring_records.specs.Member.{Member}
-use Rattle.ring_records.specs.States.{NodeState, IsNodeState, launched_base, durable_in, flown_in, flying_in}
+use Rattle.ring_records.specs.States.{NodeState, launched_base, durable_in, flown_in, flying_in}
+use Rattle.ring_records.specs.Lawful.{IsNodeState}
 use Rattle.ring_records.proofs.Lists.{none≢some}
 use Rattle.ring_records.proofs.States.{idle-none}
 use Rattle.gated_journal.specs.declared.work.Work.{Work}
-use Rattle.group_commit.specs.Desk.{DeskKept, next_area, launch_objection, landed, launched, launched_all}
-use Rattle.group_commit.specs.Next.{is_checkpoint_next, launched_next, IsFitting, IsNext, IsNoWork, IsWorkOf}
+use Rattle.group_commit.specs.Desk.{DeskKept, landed, launched}
+use Rattle.group_commit.specs.Launching.{next_area, launch_objection, launched_all}
+use Rattle.group_commit.specs.Next.{IsNext}
+use Rattle.group_commit.specs.Launching.{is_checkpoint_next, launched_next, IsFitting, IsNoWork, IsWorkOf}
 use Rattle.group_commit.proofs.Checkpoints.{idle_free, none_pending}
 use Rattle.group_commit.proofs.KeptInputs.{after-inputs}
 use Rattle.group_commit.proofs.Costs.{base_stays, flown, launched_counts}
@@ -34,6 +37,8 @@ pub record Launches (old new : DeskKept) : Type 0 where
   pub inputs : new.view.state.inputs ≡ old.view.state.inputs
   pub durable : new.view.state.durable ≡ old.view.state.durable
   pub base : new.view.state.base ≡ old.view.state.base
+  pub closed : new.view.closed ≡ old.view.closed
+  pub failed : new.view.failed ≡ old.view.failed
   pub counts : IsNodeState new.view.state
   pub next : IsNextArea new.view.state
 
@@ -47,6 +52,8 @@ launches_batch old new free counts next =
       inputs = refl;
       durable = refl;
       base = refl;
+      closed = refl;
+      failed = refl;
       counts = launched_counts s none counts;
       next = λ b e. none≢some b (sym none ∙ e);
     })
@@ -59,6 +66,8 @@ launches_all old new counts next =
       inputs = refl;
       durable = refl;
       base = refl;
+      closed = refl;
+      failed = refl;
       counts = record {
         durable = omega (arith, counts.durable, counts.flying);
         flying = omega arith;
@@ -71,7 +80,7 @@ launches_all old new counts next =
 pub launches : {T E : Type 0} (w : Bool) (result : Result T E) (old new : DeskKept) → IsNodeState old.view.state → IsNextArea old.view.state
     → OnOk result (new ≡ launched_next w old) → OnOk result (launch_objection old.view ≡ None) → OnErr result (new ≡ old) → Launches old new
 launches w (Err e) old new counts next is free same =
-    subst (Launches old) (sym same) (record { member = refl; opening = refl; inputs = refl; durable = refl; base = refl; counts = counts; next = next })
+    subst (Launches old) (sym same) (record { member = refl; opening = refl; inputs = refl; durable = refl; base = refl; closed = refl; failed = refl; counts = counts; next = next })
 launches w (Ok some) old new counts next is free same = go (is_checkpoint_next w old) is
   where
     go : (b : Bool) → new ≡ record old { view = if b then launched_all old else launched old.view } → Launches old new

@@ -1,3 +1,4 @@
+pub mod Desks
 pub mod Holders
 pub mod Pages
 pub mod Props

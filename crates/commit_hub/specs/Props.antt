@@ -6,7 +6,8 @@ use Rattle.ring_records.specs.declared.summary.Summary.{Summary}
 use Rattle.ring_records.specs.Member.{Member}
 use Rattle.ring_records.specs.States.{NodeState}
 use Rattle.ring_records.specs.Codes.{coded_summary}
-use Rattle.commit_hub.specs.Tied.{Durable, Names, coded_durable, coded_names}
+use Rattle.gated_journal.specs.Batch.{Numbered}
+use Rattle.commit_hub.specs.Tied.{Durable, Names, TieView, coded_durable, coded_flying, coded_names, coded_view}
 use Rattle.commit_hub.specs.Works.{IsNextArea}
 
 members : IsSet Member
@@ -23,6 +24,12 @@ names-prop a b = Coded-set coded_names a b
 
 pub durable-prop : (a b : Durable) → IsProp (a ≡ b)
 durable-prop a b = Coded-set coded_durable a b
+
+pub flying-prop : (a b : Numbered) → IsProp (a ≡ b)
+flying-prop a b = Coded-set coded_flying a b
+
+pub view-prop : (a b : TieView) → IsProp (a ≡ b)
+view-prop a b = Coded-set coded_view a b
 
 pub IsNextArea-prop : (s : NodeState) → IsProp (IsNextArea s)
 IsNextArea-prop s p q i = λ b e. (Coded-set coded_ℕ _ _ (p b e).0 (q b e).0 i, Coded-set coded_ℕ _ _ (p b e).1 (q b e).1 i)

@@ -1,17 +1,32 @@
 -- What a hub's tie knows of its desk, and what a token of its history names.
-use Rattle.std.specs.Prelude.{ℕ, List, []}
+use Rattle.std.specs.Prelude.{ℕ, Bool, false, List, [], None}
 use Rattle.std.specs.Coded.{Coded, codes}
 use base.Fml.{Fml, fsep, fobs, fauth}
 use base.Growing.{Order, prefixes, latest, at_least}
 use base.Share.{quarter, three_quarters}
 use Rattle.ring_records.specs.declared.input.Input.{Input}
 use Rattle.ring_records.specs.Admission.{fresh}
+use Rattle.gated_journal.specs.Batch.{Numbered, numbered}
 pub use Rattle.group_commit.specs.Next.{Durable, durable_part, with_area, with_batch}
+use Rattle.group_commit.specs.Desk.{DeskKept}
+use Rattle.commit_hub.specs.Desks.{flying_part, is_done}
 
 -- which value it is that both halves know, and which list its inputs are
 pub record Names : Type 0 where
   pub value : ℕ
   pub history : ℕ
+
+-- What is durable; what flies, from its launch until it lands; whether the hub has failed; and whether it was seen closed with
+-- all that it accepted durable, which stays so.
+pub record TieView : Type 0 where
+  pub durable : Durable
+  pub flying : Numbered
+  pub failed : Bool
+  pub done : Bool
+
+-- all this of a desk
+abbrev pub part_of : DeskKept → TieView
+part_of desk = record { durable = durable_part desk; flying = flying_part desk; failed = desk.view.failed; done = is_done desk }
 
 -- ---- the halves: whoever has both may write, and each alone knows what was written last. Of the list of the durable inputs
 -- each has a share: with both it is added to, and nothing is ever taken from it.
@@ -22,24 +37,30 @@ coded_names = hlevel codes
 pub coded_durable : Coded Durable
 coded_durable = hlevel codes
 
+pub coded_flying : Coded Numbered
+coded_flying = hlevel codes
+
+pub coded_view : Coded TieView
+coded_view = hlevel codes
+
 pub coded_input : Coded Input
 coded_input = hlevel codes
 
 pub coded_inputs : Coded (List Input)
 coded_inputs = hlevel codes
 
-abbrev pub nothing : Durable
-nothing = record { base = fresh; inputs = [] }
+abbrev pub nothing : TieView
+nothing = record { durable = record { base = fresh; inputs = [] }; flying = numbered 0 0 []; failed = false; done = false }
 
 -- lists that are only added to
 abbrev pub histories : Order (List Input)
 histories = prefixes coded_input
 
-abbrev pub held_owns : Names → Durable → Fml
-held_owns names durable = fsep (fauth names.value (coded_durable.code durable)) (latest histories three_quarters names.history durable.inputs)
+abbrev pub held_owns : Names → TieView → Fml
+held_owns names view = fsep (fauth names.value (coded_view.code view)) (latest histories three_quarters names.history view.durable.inputs)
 
-abbrev pub known_owns : Names → Durable → Fml
-known_owns names durable = fsep (fobs names.value (coded_durable.code durable)) (latest histories quarter names.history durable.inputs)
+abbrev pub known_owns : Names → TieView → Fml
+known_owns names view = fsep (fobs names.value (coded_view.code view)) (latest histories quarter names.history view.durable.inputs)
 
 -- the list began with these inputs when the token was made, and does so for good
 abbrev pub begun_owns : ℕ → List Input → Fml

@@ -13,7 +13,8 @@ use Rattle.ring_records.specs.History.{stands}
 use Rattle.ring_records.specs.Member.{Member}
 use Rattle.ring_records.specs.Message.{is_outside}
 use Rattle.ring_records.specs.Release.{packets, notices, window}
-use Rattle.ring_records.specs.States.{NodeState, IsLawfulState, launched_base, durable_in, shown_in}
+use Rattle.ring_records.specs.States.{NodeState, launched_base, durable_in, shown_in}
+use Rattle.ring_records.specs.Lawful.{IsLawfulState}
 use Rattle.ring_records.specs.Summary.{floors_in, summary}
 use Rattle.group_commit.specs.declared.landed.Landed.{Landed}
 use Rattle.group_commit.specs.Desk.{DeskKept, frees_room, is_due}

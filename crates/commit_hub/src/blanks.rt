@@ -1,6 +1,6 @@
 //! What a hub is made of.
 ghost use Rattle.std.specs.Prelude.{◌≡◌, ◌+◌, ◌≤◌};
-ghost use Rattle.commit_hub.specs.Props.{durable-prop, names-prop};
+ghost use Rattle.commit_hub.specs.Props.{names-prop, view-prop};
 ghost use Rattle.commit_hub.specs.Tied.{nothing};
 
 use crate::tied::{Held, Known, open};
@@ -16,7 +16,7 @@ pub struct Blanks {
     pub(crate) known: Known,
     ghost accepted_is: { accepted.parts ≡ places + 1 },
     ghost halves: { known.name ≡ held.name } by { names-prop known.name held.name },
-    ghost empty: { held.durable ≡ nothing } by { durable-prop held.durable nothing },
+    ghost empty: { held.knows ≡ nothing } by { view-prop held.knows nothing },
 }
 
 impl Blanks {

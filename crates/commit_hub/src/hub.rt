@@ -1,22 +1,23 @@
 //! One lock round a desk, for many appenders and one flusher.
-ghost use Rattle.std.specs.Prelude.{ℕ, ◌≡◌, ◌+◌, ◌≤◌, ◌⊎◌, List, length, map, false, IfOk, IfErr, IfNone, IfSome, IsOk, OnOk, OnErr};
+ghost use Rattle.std.specs.Prelude.{ℕ, ◌≡◌, ◌+◌, ◌≤◌, ◌⊎◌, List, length, map, false, true, IfOk, IfErr, IfNone, IfSome, IsOk, MatchOption, OnOk, OnErr};
 ghost use Rattle.std.specs.List.{sum_by};
 ghost use Rattle.ring_records.specs.declared.input.Input.{Input};
-ghost use Rattle.ring_records.specs.States.{IsLawfulState};
+ghost use Rattle.ring_records.specs.Lawful.{IsLawfulState};
 ghost use Rattle.ring_records.specs.Message.{is_outside};
 ghost use Rattle.gated_journal.specs.Batch.{is_checkpoint, landed as receipted, lost};
 ghost use Rattle.group_commit.specs.Desk.{IsAnswer, seen};
 ghost use Rattle.node_core.specs.Core.{IsNodeOf};
 ghost use Rattle.group_commit.specs.Past.{IsPast};
 ghost use Rattle.group_commit.specs.Ticket.{shown};
-ghost use Rattle.commit_hub.specs.Holders.{begun_by, count_of, known_by};
+ghost use Rattle.commit_hub.specs.Desks.{is_over};
+ghost use Rattle.commit_hub.specs.Holders.{begun_by, count_of, known_by, objection_to, view_by, IsNotLaunched};
 ghost use Rattle.commit_hub.specs.Pages.{ForAccepted, ForTie};
 ghost use Rattle.commit_hub.specs.Tied.{durable_part, with_batch, with_area};
 ghost use Rattle.commit_hub.specs.Told.{IsUnasked, IsBrought, IsLook, IsWindow};
-ghost use Rattle.commit_hub.specs.Works.{IsNext};
+ghost use Rattle.commit_hub.specs.Works.{IsNext, flown_by};
 
 use crate::blanks::Blanks;
-use crate::ledgers::Node;
+use crate::ledgers::NodeLedger;
 use crate::locked::Locked;
 use crate::look::Look;
 use crate::share::{Begun, Share, Tie};
@@ -33,22 +34,26 @@ use std::sync::{Mutex, MutexGuard, Wait};
 /// histories holds behind each past of which the opening is the summary; a hub whose opening is that of no history keeps
 /// its counts.
 #[derive(Drop)]
-pub struct Hub<A: Node> {
+pub struct Hub<A: NodeLedger> {
     guarded: Mutex<Guarded<A>>,
     bells: Bells,
 }
 
-impl<A: Node> Hub<A> {
-    /// A hub round this desk, and its one tie, which knows what of the desk is durable.
+impl<A: NodeLedger> Hub<A> {
+    /// A hub round this desk, and its one tie, which knows what of the desk is durable. Nothing flies, and the desk takes
+    /// requests.
     pub fn new(desk: Desk, blanks: Blanks) -> (Hub<A>, Tie<A>)
         requires member { desk.view.member ≡ A.member }
         requires opening { desk.opening ≡ A.opening }
         requires none { desk.view.state.checkpoint ≡ None }
+        requires idle { desk.view.state.flying ≡ desk.view.state.durable }
+        requires open { is_over desk ≡ false }
         requires opened { desk.opening.inputs + length desk.view.state.inputs ≡ A.opened }
         requires accepted { ForAccepted blanks A.name A.parts }
         requires tied { ForTie blanks A.tied }
         ensures known { known_by result.1 ≡ durable_part desk }
         ensures durable { length (known_by result.1).inputs ≡ desk.view.state.durable }
+        ensures free { objection_to result.1 ≡ None }
     {
         let (locked, tie) = Locked::new(desk, blanks);
         let hub = Hub {
@@ -165,8 +170,13 @@ impl<A: Node> Hub<A> {
         ensures next { IfOk result (λ some. IfSome some (IsNext A.member A.opening (known_by tie.old))) }
         ensures none { IfOk result (λ some. IfNone some (A.opened ≤ A.opening.inputs + length (known_by tie.old).inputs)) }
         ensures based { (known_by tie.old).base.inputs ≤ length (known_by tie.old).inputs }
-        ensures refusal { IfErr result (λ refusal. (refusal ≡ Refusal.Failed) ⊎ ((refusal ≡ Refusal.Busy) ⊎ (refusal ≡ Refusal.OutOfMemory))) }
+        ensures done { IfOk result (λ some. IfNone some ((view_by tie.new).done ≡ true)) }
+        ensures flies { IfOk result (λ some. MatchOption some (objection_to tie.new ≡ None) (λ work. (view_by tie.new).flying ≡ flown_by work)) }
+        ensures cause { IfErr result (IsNotLaunched tie.old) }
+        ensures idle { OnOk result (objection_to tie.old ≡ None) }
         ensures tie { known_by tie.new ≡ known_by tie.old }
+        ensures works { (view_by tie.new).failed ≡ (view_by tie.old).failed }
+        ensures waits { OnErr result (objection_to tie.new ≡ objection_to tie.old) }
     {
         let mut guard = self.bells.wait_for_work(rt, self.guarded.lock(rt));
         guard.locked.launch(tie)
@@ -188,9 +198,13 @@ impl<A: Node> Hub<A> {
         ensures brought { IfOk result (λ landed. IsBrought A.member A.opening (known_by tie.old).inputs (receipted receipt).inputs landed) }
         ensures batch { OnOk result ((receipted receipt).snapshot ≡ None → known_by tie.new ≡ with_batch (known_by tie.old) (receipted receipt).inputs) }
         ensures checkpoint { OnOk result ((bytes : ℕ) → (receipted receipt).snapshot ≡ Some bytes → known_by tie.new ≡ with_area (known_by tie.old) (receipted receipt).inputs bytes) }
+        ensures flew { OnOk result ((view_by tie.old).flying ≡ receipted receipt) }
+        ensures worked { OnOk result ((view_by tie.old).failed ≡ false) }
+        ensures free { OnOk result (objection_to tie.new ≡ None) }
         ensures refusal { IfErr result (λ e. e.1 ≡ Refusal.Foreign) }
+        ensures cause { OnErr result ((view_by tie.old).flying ≡ receipted receipt → (view_by tie.old).failed ≡ false → ⊥) }
         ensures back { IfErr result (λ e. receipted e.0 ≡ receipted receipt) }
-        ensures tie { OnErr result (known_by tie.new ≡ known_by tie.old) }
+        ensures tie { OnErr result (view_by tie.new ≡ view_by tie.old) }
     {
         let mut guard = self.guarded.lock(rt);
         match guard.locked.land(tie, receipt) {
@@ -209,15 +223,20 @@ impl<A: Node> Hub<A> {
     pub fn fail<R: Wait>(
         &self,
         rt: &R,
-        _tie: &mut Tie<A>,
+        tie: &mut Tie<A>,
         spoiled: Spoiled,
     ) -> Result<(), (Spoiled, Refusal)>
+        ensures flew { OnOk result ((view_by tie.old).flying ≡ lost spoiled) }
+        ensures failed { OnOk result ((view_by tie.new).failed ≡ true) }
         ensures refusal { IfErr result (λ e. e.1 ≡ Refusal.Foreign) }
+        ensures cause { OnErr result ((view_by tie.old).flying ≡ lost spoiled → ⊥) }
         ensures back { IfErr result (λ e. lost e.0 ≡ lost spoiled) }
-        ensures tie { known_by _tie.new ≡ known_by _tie.old }
+        ensures tie { known_by tie.new ≡ known_by tie.old }
+        ensures flies { (view_by tie.new).flying ≡ (view_by tie.old).flying }
+        ensures works { OnErr result ((view_by tie.new).failed ≡ (view_by tie.old).failed) }
     {
         let mut guard = self.guarded.lock(rt);
-        match guard.locked.fail(spoiled) {
+        match guard.locked.fail(tie, spoiled) {
             Err((spoiled, refusal)) => Err((spoiled, refusal)),
             Ok(()) => {
                 drop(guard);
@@ -235,10 +254,14 @@ impl<A: Node> Hub<A> {
     }
 
     /// Nothing more becomes durable, as after a failure of the device: for a flusher that goes on no more. All who wait
-    /// are told.
-    pub fn abandon<R: Wait>(&self, rt: &R) {
+    /// are told. The tie knows it, so that `launch` and `land` refuse it from then on.
+    pub fn abandon<R: Wait>(&self, rt: &R, tie: &mut Tie<A>)
+        ensures failed { (view_by tie.new).failed ≡ true }
+        ensures tie { known_by tie.new ≡ known_by tie.old }
+        ensures flies { (view_by tie.new).flying ≡ (view_by tie.old).flying }
+    {
         let mut guard = self.guarded.lock(rt);
-        guard.locked.abandon();
+        guard.locked.abandon(tie);
         self.tell_all(guard);
     }
 

@@ -11,7 +11,7 @@ use std::sync::ledger::Ledger;
 /// The ledger of the inputs that a node accepted. It names the node, its ring size and its capacity; the summary that
 /// its desk was opened with; how many inputs the node had when its hub was made, those that are summarised among them;
 /// and by its names what the hub and its tie both know, and the list of the durable inputs since the opening.
-pub trait Node: Ledger {
+pub trait NodeLedger: Ledger {
     ghost member: { Member };
 
     ghost opening: { Summary };
@@ -21,7 +21,7 @@ pub trait Node: Ledger {
     ghost tied: { Names };
 }
 
-impl Node for Brand {
+impl NodeLedger for Brand {
     ghost member = { record { node = 0; n = 0; capacity = 0 } };
 
     ghost opening = { empty };

@@ -15,6 +15,6 @@ mod waking;
 pub use blanks::Blanks;
 pub use gated_journal::Work;
 pub use hub::Hub;
-pub use ledgers::Node;
+pub use ledgers::NodeLedger;
 pub use look::Look;
 pub use share::{Begun, Share, Tie};

@@ -1,27 +1,31 @@
 //! What lies under a hub's lock: its desk, the book of its ledger, and what its tie knows too.
-ghost use Rattle.std.specs.Prelude.{◌≡◌, ◌≢◌, ◌↔◌, ◌+◌, ◌-◌, ◌≤◌, ◌<◌, ◌⊎◌, ◌||◌, ◌&&◌, not, nat_eq, nat_le, nat_lt, ℕ, List, IsTrue, true, false, length, Some, None, IfOk, IfErr, IfNone, IfSome, MatchOption, OnOk, OnErr};
+ghost use Rattle.std.specs.Prelude.{◌≡◌, ◌≢◌, ◌↔◌, ◌+◌, ◌-◌, ◌≤◌, ◌<◌, ◌⊎◌, ◌||◌, ◌&&◌, not, ℕ, List, IsTrue, true, false, length, Some, None, IfOk, IfErr, IfNone, IfSome, MatchOption, OnOk, OnErr};
 ghost use Rattle.ring_records.specs.declared.input.Input.{Input};
 ghost use Rattle.ring_records.specs.Admission.{used};
 ghost use Rattle.ring_records.specs.Answer.{Answered};
-ghost use Rattle.ring_records.specs.States.{IsNodeState, launched_base, durable_in};
+ghost use Rattle.ring_records.specs.States.{launched_base, durable_in};
+ghost use Rattle.ring_records.specs.Lawful.{IsNodeState};
 ghost use Rattle.ring_records.specs.Props.{IsNodeState-prop};
 ghost use Rattle.ring_records.specs.Release.{packets, notices, window};
 ghost use Rattle.gated_journal.specs.Batch.{is_checkpoint, landed as receipted, lost};
-ghost use Rattle.group_commit.specs.Desk.{seen, ended, landed, let_go, objection, launch_objection, IsSubmitted, IsAnswer, IsHere, IsSealed, IsFlying};
+ghost use Rattle.group_commit.specs.Desk.{seen, ended, landed, let_go, objection, IsSubmitted, IsAnswer, IsHere, IsSealed, IsFlying};
+ghost use Rattle.group_commit.specs.Launching.{launch_objection};
 ghost use Rattle.node_core.specs.Core.{IsNodeOf};
-ghost use Rattle.group_commit.specs.Next.{is_to_make_room, launched_next, IsNoWork, IsUnlaunched, IsWorkOf};
+ghost use Rattle.group_commit.specs.Next.{is_to_make_room};
+ghost use Rattle.group_commit.specs.Launching.{launched_next, IsNoWork, IsUnlaunched, IsWorkOf};
 ghost use Rattle.group_commit.specs.Past.{IsPast};
 ghost use Rattle.group_commit.specs.Ticket.{shown};
-ghost use Rattle.commit_hub.specs.Holders.{begun_by, count_of, known_by};
+ghost use Rattle.commit_hub.specs.Desks.{flying_part, is_done, is_over, is_resting, lands_next};
+ghost use Rattle.commit_hub.specs.Holders.{begun_by, count_of, known_by, objection_to, view_by, IsNotLaunched};
 ghost use Rattle.commit_hub.specs.Pages.{places_of, ForAccepted, ForTie};
-ghost use Rattle.commit_hub.specs.Props.{member-prop, summary-prop, names-prop, durable-prop, IsNextArea-prop};
+ghost use Rattle.commit_hub.specs.Props.{member-prop, summary-prop, names-prop, durable-prop, flying-prop, IsNextArea-prop};
 ghost use Rattle.commit_hub.specs.Tied.{durable_part, with_batch, with_area};
 ghost use Rattle.commit_hub.specs.Told.{IsBrought, IsLook, IsWindow, look_of, room_in, room_of};
-ghost use Rattle.commit_hub.specs.Works.{IsNext, IsNextArea, stays_wanted};
+ghost use Rattle.commit_hub.specs.Works.{IsNext, IsNextArea, flown_by, stays_wanted};
 ghost use Rattle.ring_records.specs.declared.reply.Reply.TheVariants as replied;
 
 use crate::blanks::Blanks;
-use crate::ledgers::Node;
+use crate::ledgers::NodeLedger;
 use crate::look::Look;
 use crate::places::Places;
 use crate::share::{Begun, Share, Tie};
@@ -37,7 +41,7 @@ use std::sync::ledger::Book;
 /// A desk, the book that counts its inputs, and what its tie knows to be durable; and the shares of the accepted inputs
 /// that nobody holds: of those that the desk had at first, and of the places that are left, of all that there are.
 #[derive(Drop)]
-pub(crate) struct Locked<A: Node> {
+pub(crate) struct Locked<A: NodeLedger> {
     pub(crate) shared: SharedDesk,
     pub(crate) accepted: Book<A>,
     pub(crate) first: ledger::Share<A>,
@@ -55,16 +59,21 @@ pub(crate) struct Locked<A: Node> {
     ghost first_is: { (first.parts ≡ 1) × (first.amount ≡ opened) × (opened ≡ A.opened) },
     ghost spare_is: { (spare.parts ≡ left) × (spare.amount ≡ 0) },
     ghost named: { held.name ≡ A.tied } by { names-prop held.name A.tied },
-    ghost held_is: { held.durable ≡ durable_part shared.desk } by { durable-prop held.durable (durable_part shared.desk) },
+    ghost held_is: { held.knows.durable ≡ durable_part shared.desk } by { durable-prop held.knows.durable (durable_part shared.desk) },
+    ghost flies: { held.knows.flying ≡ flying_part shared.desk } by { flying-prop held.knows.flying (flying_part shared.desk) },
+    ghost fails: { held.knows.failed ≡ shared.desk.view.failed },
+    ghost done: { held.knows.done ≡ true → is_done shared.desk ≡ true },
     ghost next_is: { IsNextArea shared.desk.view.state } by { IsNextArea-prop shared.desk.view.state },
 }
 
-impl<A: Node> Locked<A> {
+impl<A: NodeLedger> Locked<A> {
     /// Opens the ledger, counts what the desk has, and lets the tie know what of it is durable.
     pub(crate) fn new(desk: Desk, blanks: Blanks) -> (Locked<A>, Tie<A>)
         requires member { desk.view.member ≡ A.member }
         requires opening { desk.opening ≡ A.opening }
         requires none { desk.view.state.checkpoint ≡ None }
+        requires idle { desk.view.state.flying ≡ desk.view.state.durable }
+        requires open { is_over desk ≡ false }
         requires opened { desk.opening.inputs + length desk.view.state.inputs ≡ A.opened }
         requires accepted { ForAccepted blanks A.name A.parts }
         requires tied { ForTie blanks A.tied }
@@ -72,6 +81,7 @@ impl<A: Node> Locked<A> {
         ensures places { result.0.left ≡ places_of blanks }
         ensures known { known_by result.1 ≡ durable_part desk }
         ensures durable { length (known_by result.1).inputs ≡ desk.view.state.durable }
+        ensures free { objection_to result.1 ≡ None }
     {
         let Blanks {
             places,
@@ -198,11 +208,11 @@ impl<A: Node> Locked<A> {
 
     /// As on the desk, which may take requests; the ticket ends in every case.
     pub(crate) fn forfeit(&mut self, ticket: Ticket) -> Result<(), Refusal>
-        ensures over { OnOk result ((self.old.shared.desk.view.closed || self.old.shared.desk.view.failed) ≡ true) }
+        ensures over { OnOk result (is_over self.old.shared.desk ≡ true) }
         ensures here { OnOk result ((kept : Answered) × IsHere self.old.shared.desk.view (shown ticket) kept) }
         ensures next { OnOk result (self.new.shared.desk ≡ record self.old.shared.desk { view = ended (shown ticket).own self.old.shared.desk.view }) }
         ensures foreign { IfErr result (λ e. e ≡ Refusal.Foreign) }
-        ensures gone { OnErr result ((self.old.shared.desk.view.closed || self.old.shared.desk.view.failed) ≡ true → (kept : Answered) → IsHere self.old.shared.desk.view (shown ticket) kept → ⊥) }
+        ensures gone { OnErr result (is_over self.old.shared.desk ≡ true → (kept : Answered) → IsHere self.old.shared.desk.view (shown ticket) kept → ⊥) }
         ensures same { OnErr result (self.new.shared.desk ≡ self.old.shared.desk) }
     {
         self.shared.forfeit(ticket)
@@ -214,6 +224,10 @@ impl<A: Node> Locked<A> {
     pub(crate) fn launch(&mut self, tie: &mut Tie<A>) -> Result<Option<Work>, Refusal>
         ensures next { IfOk result (λ some. IfSome some (IsNext A.member A.opening (known_by tie.old))) }
         ensures none { IfOk result (λ some. IfNone some (A.opened ≤ A.opening.inputs + length (known_by tie.old).inputs)) }
+        ensures done { IfOk result (λ some. IfNone some (is_resting self.old.is_wanted self.old.shared.desk ≡ false → (view_by tie.new).done ≡ true)) }
+        ensures flies { IfOk result (λ some. MatchOption some (objection_to tie.new ≡ None) (λ work. (view_by tie.new).flying ≡ flown_by work)) }
+        ensures cause { IfErr result (IsNotLaunched tie.old) }
+        ensures idle { OnOk result (objection_to tie.old ≡ None) }
         ensures based { (known_by tie.old).base.inputs ≤ length (known_by tie.old).inputs }
         ensures work { IfOk result (λ some. MatchOption some (IsNoWork self.old.is_wanted self.old.shared.desk) (IsWorkOf self.old.is_wanted self.old.shared.desk self.new.shared.desk)) }
         ensures desk { OnOk result (self.new.shared.desk ≡ launched_next self.old.is_wanted self.old.shared.desk) }
@@ -222,6 +236,8 @@ impl<A: Node> Locked<A> {
         ensures refusal { IfErr result (IsUnlaunched self.old.shared.desk) }
         ensures same { OnErr result (self.new.shared.desk ≡ self.old.shared.desk) }
         ensures tie { known_by tie.new ≡ known_by tie.old }
+        ensures works { (view_by tie.new).failed ≡ (view_by tie.old).failed }
+        ensures waits { OnErr result (objection_to tie.new ≡ objection_to tie.old) }
     {
         let Locked {
             shared: SharedDesk { desk },
@@ -232,10 +248,10 @@ impl<A: Node> Locked<A> {
             ..
         } = self;
         let Tie { known, .. } = tie;
-        audit(held, known);
         // Its inputs are those of the opening, and more.
         accepted.audit(first);
         let launched = desk.launch_next(*is_wanted);
+        follow(held, known, desk);
         *is_wanted = stays_wanted(*is_wanted, &launched);
         launched
     }
@@ -260,10 +276,14 @@ impl<A: Node> Locked<A> {
         ensures next { OnOk result (self.new.shared.desk ≡ record self.old.shared.desk { view = landed self.old.shared.desk.view }) }
         ensures batch { OnOk result ((receipted receipt).snapshot ≡ None → known_by tie.new ≡ with_batch (known_by tie.old) (receipted receipt).inputs) }
         ensures checkpoint { OnOk result ((bytes : ℕ) → (receipted receipt).snapshot ≡ Some bytes → known_by tie.new ≡ with_area (known_by tie.old) (receipted receipt).inputs bytes) }
+        ensures flew { OnOk result ((view_by tie.old).flying ≡ receipted receipt) }
+        ensures worked { OnOk result ((view_by tie.old).failed ≡ false) }
+        ensures free { OnOk result (objection_to tie.new ≡ None) }
         ensures foreign { IfErr result (λ e. (e.1 ≡ Refusal.Foreign) × (IsFlying self.old.shared.desk (receipted receipt) → self.old.shared.desk.view.failed ≡ false → ⊥)) }
+        ensures cause { OnErr result ((view_by tie.old).flying ≡ receipted receipt → (view_by tie.old).failed ≡ false → ⊥) }
         ensures back { IfErr result (λ e. receipted e.0 ≡ receipted receipt) }
         ensures same { OnErr result (self.new.shared.desk ≡ self.old.shared.desk) }
-        ensures tie { OnErr result (known_by tie.new ≡ known_by tie.old) }
+        ensures tie { OnErr result (view_by tie.new ≡ view_by tie.old) }
     {
         let Locked {
             shared: SharedDesk { desk },
@@ -271,6 +291,7 @@ impl<A: Node> Locked<A> {
             ..
         } = self;
         let Tie { known, .. } = tie;
+        audit(held, known);
         match desk.land(receipt) {
             Err((receipt, refusal)) => Err((receipt, refusal)),
             Ok(landed) => {
@@ -282,36 +303,74 @@ impl<A: Node> Locked<A> {
         }
     }
 
-    /// As on the desk.
-    pub(crate) fn fail(&mut self, spoiled: Spoiled) -> Result<(), (Spoiled, Refusal)>
+    /// As on the desk; the tie knows it.
+    pub(crate) fn fail(
+        &mut self,
+        tie: &mut Tie<A>,
+        spoiled: Spoiled,
+    ) -> Result<(), (Spoiled, Refusal)>
         ensures flying { OnOk result (IsFlying self.old.shared.desk (lost spoiled)) }
         ensures next { OnOk result (self.new.shared.desk ≡ record self.old.shared.desk { view = record self.old.shared.desk.view { failed = true } }) }
+        ensures flew { OnOk result ((view_by tie.old).flying ≡ lost spoiled) }
+        ensures failed { OnOk result ((view_by tie.new).failed ≡ true) }
         ensures foreign { IfErr result (λ e. (e.1 ≡ Refusal.Foreign) × (IsFlying self.old.shared.desk (lost spoiled) → ⊥)) }
+        ensures cause { OnErr result ((view_by tie.old).flying ≡ lost spoiled → ⊥) }
         ensures back { IfErr result (λ e. lost e.0 ≡ lost spoiled) }
         ensures same { OnErr result (self.new.shared.desk ≡ self.old.shared.desk) }
+        ensures tie { known_by tie.new ≡ known_by tie.old }
+        ensures flies { (view_by tie.new).flying ≡ (view_by tie.old).flying }
+        ensures works { OnErr result ((view_by tie.new).failed ≡ (view_by tie.old).failed) }
     {
-        self.shared.desk.fail(spoiled)
+        let Locked {
+            shared: SharedDesk { desk },
+            held,
+            ..
+        } = self;
+        let Tie { known, .. } = tie;
+        audit(held, known);
+        match desk.fail(spoiled) {
+            Err((spoiled, refusal)) => Err((spoiled, refusal)),
+            Ok(()) => Ok(follow(held, known, desk)),
+        }
     }
 
-    /// As on the desk.
-    pub(crate) fn abandon(&mut self)
-        ensures { self.new.shared.desk ≡ record self.old.shared.desk { view = record self.old.shared.desk.view { failed = true } } }
+    /// As on the desk; the tie knows it.
+    pub(crate) fn abandon(&mut self, tie: &mut Tie<A>)
+        ensures next { self.new.shared.desk ≡ record self.old.shared.desk { view = record self.old.shared.desk.view { failed = true } } }
+        ensures failed { (view_by tie.new).failed ≡ true }
+        ensures tie { known_by tie.new ≡ known_by tie.old }
+        ensures flies { (view_by tie.new).flying ≡ (view_by tie.old).flying }
+        ensures left { self.new.left ≡ self.old.left }
+        ensures wanted { self.new.is_wanted ≡ self.old.is_wanted }
     {
-        self.shared.desk.abandon();
+        let Locked {
+            shared: SharedDesk { desk },
+            held,
+            ..
+        } = self;
+        let Tie { known, .. } = tie;
+        desk.abandon();
+        follow(held, known, desk);
     }
 
-    /// As on the desk.
+    /// As on the desk; nothing else is changed, no share, no tie and no list.
     pub(crate) fn close(&mut self)
-        ensures { self.new.shared.desk ≡ record self.old.shared.desk { view = record self.old.shared.desk.view { closed = true } } }
+        ensures next { self.new.shared.desk ≡ record self.old.shared.desk { view = record self.old.shared.desk.view { closed = true } } }
+        ensures left { self.new.left ≡ self.old.left }
+        ensures held { self.new.held ≡ self.old.held }
+        ensures wanted { self.new.is_wanted ≡ self.old.is_wanted }
     {
         self.shared.desk.close();
     }
 
-    /// As on the desk. The caller sees that the node is one of the ring.
+    /// As on the desk; nothing else is changed, no share, no tie and no list. The caller sees that the node is one of the ring.
     pub(crate) fn let_go(&mut self) -> Gone
         requires inside { IsNodeOf A.member.n A.member.node }
         ensures next { self.new.shared.desk ≡ let_go self.old.shared.desk }
         ensures count { result.count ≡ self.new.shared.desk.gone }
+        ensures left { self.new.left ≡ self.old.left }
+        ensures held { self.new.held ≡ self.old.held }
+        ensures wanted { self.new.is_wanted ≡ self.old.is_wanted }
     {
         self.shared.desk.let_go()
     }
@@ -331,10 +390,10 @@ impl<A: Node> Locked<A> {
     /// What the desk shows.
     pub(crate) fn look(&self) -> Look
         ensures counts { (past : List Input) → IsPast A.member A.opening past
-            → result ≡ look_of A.member (seen past self.now.shared.desk).state (room_of self.now.is_wanted self.now.shared.desk) (not (self.now.shared.desk.view.closed || self.now.shared.desk.view.failed)) }
+            → result ≡ look_of A.member (seen past self.now.shared.desk).state (room_of self.now.is_wanted self.now.shared.desk) (not (is_over self.now.shared.desk)) }
         ensures room { room_in result ≡ room_of self.now.is_wanted self.now.shared.desk }
         ensures epoch { result.epoch ≡ self.now.shared.desk.view.state.base.epoch }
-        ensures is_open { result.is_open ≡ not (self.now.shared.desk.view.closed || self.now.shared.desk.view.failed) }
+        ensures is_open { result.is_open ≡ not (is_over self.now.shared.desk) }
         ensures inputs { result.shown.inputs ≡ self.now.shared.desk.opening.inputs + length self.now.shared.desk.view.state.inputs }
         ensures durable { result.shown.durable ≡ self.now.shared.desk.opening.inputs + self.now.shared.desk.view.state.durable }
         ensures used { result.used ≡ used (launched_base self.now.shared.desk.view.state) self.now.shared.desk.view.state.inputs }
@@ -360,7 +419,7 @@ impl<A: Node> Locked<A> {
 
     /// Whether there is nothing to launch yet: all inputs are durable, more may come, and no checkpoint is to make room.
     pub(crate) fn is_idle(&self) -> bool
-        ensures { result ≡ ((not (nat_lt self.now.shared.desk.view.state.durable (length self.now.shared.desk.view.state.inputs)) && not (self.now.shared.desk.view.closed || self.now.shared.desk.view.failed)) && not (is_to_make_room self.now.is_wanted self.now.shared.desk)) }
+        ensures { result ≡ is_resting self.now.is_wanted self.now.shared.desk }
     {
         !self.shared.desk.waits() && self.shared.desk.is_open() && !self.is_room_coming()
     }
@@ -374,7 +433,7 @@ impl<A: Node> Locked<A> {
 
     /// Whether who waits for room goes on waiting: a checkpoint is to make some, and the desk takes requests.
     pub(crate) fn awaits_room(&self) -> bool
-        ensures { result ≡ (not (self.now.shared.desk.view.closed || self.now.shared.desk.view.failed) && is_to_make_room self.now.is_wanted self.now.shared.desk) }
+        ensures { result ≡ (not (is_over self.now.shared.desk) && is_to_make_room self.now.is_wanted self.now.shared.desk) }
     {
         self.shared.desk.is_open() && self.is_room_coming()
     }
@@ -382,7 +441,7 @@ impl<A: Node> Locked<A> {
     /// Whether so many inputs are durable once the next batch lands, as far as is known: they fly, or nothing flies
     /// yet.
     pub(crate) fn lands_next(&self, number: u64) -> bool
-        ensures { result ≡ (nat_le number (self.now.shared.desk.opening.inputs + self.now.shared.desk.view.state.flying) || nat_eq self.now.shared.desk.view.state.flying self.now.shared.desk.view.state.durable) }
+        ensures { result ≡ lands_next number self.now.shared.desk }
     {
         let flying = self.shared.desk.flying();
         number <= flying || flying == self.shared.desk.durable()

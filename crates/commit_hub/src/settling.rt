@@ -2,18 +2,18 @@
 ghost use Rattle.std.specs.Prelude.{◌≡◌, ◌+◌, ◌-◌, ◌^◌, ◌↔◌, IsTrue, IsOk, IfOk, IfErr, OnOk, List, length, map, min};
 ghost use Rattle.std.specs.List.{sum_by};
 ghost use Rattle.ring_records.specs.declared.input.Input.{Input};
-ghost use Rattle.ring_records.specs.States.{IsLawfulState};
+ghost use Rattle.ring_records.specs.Lawful.{IsLawfulState};
 ghost use Rattle.group_commit.specs.Desk.{seen};
 ghost use Rattle.group_commit.specs.Past.{IsPast};
 ghost use Rattle.commit_hub.specs.Holders.{count_of, AddUp};
 
-use crate::ledgers::Node;
+use crate::ledgers::NodeLedger;
 use crate::locked::Locked;
 use crate::share::Share;
 use group_commit::{Desk, SharedDesk};
 use std::sync::ledger;
 
-impl<A: Node> Locked<A> {
+impl<A: NodeLedger> Locked<A> {
     /// Ends the ledgers and the shares, and gives the desk, exactly where the shares count all inputs that were accepted
     /// since the hub was made. They do where every place is here. Else all comes back.
     pub(crate) fn settle(self, shares: Vec<Share<A>>) -> Result<Desk, (Locked<A>, Vec<Share<A>>)>
@@ -64,7 +64,7 @@ impl<A: Node> Locked<A> {
 }
 
 /// What the shares count together, 2^64 - 1 at most.
-pub(crate) fn counted_by<A: Node>(shares: &[Share<A>]) -> u64
+pub(crate) fn counted_by<A: NodeLedger>(shares: &[Share<A>]) -> u64
     ensures { result ≡ min (sum_by count_of shares.now) (2 ^ 64 - 1) }
 {
     let mut total: u64 = 0;
@@ -75,7 +75,7 @@ pub(crate) fn counted_by<A: Node>(shares: &[Share<A>]) -> u64
 }
 
 // Puts what all shares have into one.
-fn merge_all<A: Node>(whole: &mut ledger::Share<A>, shares: &mut Vec<Share<A>>)
+fn merge_all<A: NodeLedger>(whole: &mut ledger::Share<A>, shares: &mut Vec<Share<A>>)
     ensures parts { whole.new.parts ≡ whole.old.parts + length shares.old.items }
     ensures amount { whole.new.amount ≡ whole.old.amount + sum_by count_of shares.old.items }
 {

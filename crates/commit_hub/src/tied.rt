@@ -3,7 +3,7 @@
 ghost use Rattle.std.specs.Prelude.{◌≡◌, ℕ, List};
 ghost use mathlib.Core.List.{IsPrefix};
 ghost use Rattle.ring_records.specs.declared.input.Input.{Input};
-ghost use Rattle.commit_hub.specs.Tied.{Durable, Names, coded_durable, coded_inputs, coded_names, begun_owns, durable_part, held_owns, known_owns, nothing};
+ghost use Rattle.commit_hub.specs.Tied.{Names, TieView, coded_inputs, coded_names, coded_view, begun_owns, durable_part, held_owns, known_owns, nothing, part_of};
 
 use group_commit::Desk;
 use std::marker::{Model, PhantomData};
@@ -13,11 +13,11 @@ use std::marker::{Model, PhantomData};
 pub(crate) struct Held {
     marker: PhantomData<()>,
     pub ghost name: { Names } by { coded_names },
-    pub ghost durable: { Durable } by { coded_durable },
+    pub ghost knows: { TieView } by { coded_view },
 }
 
 impl Model for Held {
-    ghost also_owns = { λ h. held_owns h.name h.durable };
+    ghost also_owns = { λ h. held_owns h.name h.knows };
 }
 
 /// The half outside it.
@@ -25,11 +25,11 @@ impl Model for Held {
 pub(crate) struct Known {
     marker: PhantomData<()>,
     pub ghost name: { Names } by { coded_names },
-    pub ghost durable: { Durable } by { coded_durable },
+    pub ghost knows: { TieView } by { coded_view },
 }
 
 impl Model for Known {
-    ghost also_owns = { λ k. known_owns k.name k.durable };
+    ghost also_owns = { λ k. known_owns k.name k.knows };
 }
 
 /// These inputs were durable when it was made: the list of them, by its name, begins so for good.
@@ -56,8 +56,8 @@ unsafe impl Send for Mark {}
 /// The halves of a value that nobody else knows.
 pub(crate) fn open() -> (Held, Known)
     ensures name { result.1.name ≡ result.0.name }
-    ensures held { result.0.durable ≡ nothing }
-    ensures known { result.1.durable ≡ nothing }
+    ensures held { result.0.knows ≡ nothing }
+    ensures known { result.1.knows ≡ nothing }
 {
     (
         Held {
@@ -72,20 +72,20 @@ pub(crate) fn open() -> (Held, Known)
 /// Changes nothing: both know the same.
 pub(crate) fn audit(held: &mut Held, known: &mut Known)
     requires { known.old.name ≡ held.old.name }
-    ensures equal { known.old.durable ≡ held.old.durable }
-    ensures held { held.new.durable ≡ held.old.durable }
-    ensures known { known.new.durable ≡ known.old.durable }
+    ensures equal { known.old.knows ≡ held.old.knows }
+    ensures held { held.new.knows ≡ held.old.knows }
+    ensures known { known.new.knows ≡ known.old.knows }
     ensures held_name { held.new.name ≡ held.old.name }
     ensures known_name { known.new.name ≡ known.old.name }
 {}
 
-/// Both know what is durable of the desk, which goes on from what they knew.
+/// Both know the same of the desk, whose durable inputs go on from those that they knew.
 pub(crate) fn follow(held: &mut Held, known: &mut Known, desk: &Desk)
     requires name { known.old.name ≡ held.old.name }
-    requires longer { IsPrefix held.old.durable.inputs (durable_part desk.now).inputs }
-    ensures equal { known.old.durable ≡ held.old.durable }
-    ensures held { held.new.durable ≡ durable_part desk.now }
-    ensures known { known.new.durable ≡ durable_part desk.now }
+    requires longer { IsPrefix held.old.knows.durable.inputs (durable_part desk.now).inputs }
+    ensures equal { known.old.knows ≡ held.old.knows }
+    ensures held { held.new.knows ≡ part_of desk.now }
+    ensures known { known.new.knows ≡ part_of desk.now }
     ensures held_name { held.new.name ≡ held.old.name }
     ensures known_name { known.new.name ≡ known.old.name }
 {}
@@ -93,7 +93,7 @@ pub(crate) fn follow(held: &mut Held, known: &mut Known, desk: &Desk)
 /// A token of what is durable now.
 pub(crate) fn tell(held: &mut Held) -> Mark
     ensures history { result.history ≡ held.old.name.history }
-    ensures inputs { result.inputs ≡ held.old.durable.inputs }
+    ensures inputs { result.inputs ≡ held.old.knows.durable.inputs }
     ensures same { held.new ≡ held.old }
 {
     Mark {
@@ -104,7 +104,7 @@ pub(crate) fn tell(held: &mut Held) -> Mark
 /// Changes nothing: what is durable begins with what the token names.
 pub(crate) fn covers(known: &mut Known, mark: &mut Mark)
     requires { mark.old.history ≡ known.old.name.history }
-    ensures begins { IsPrefix mark.old.inputs known.old.durable.inputs }
+    ensures begins { IsPrefix mark.old.inputs known.old.knows.durable.inputs }
     ensures known { known.new ≡ known.old }
     ensures mark { mark.new ≡ mark.old }
 {}

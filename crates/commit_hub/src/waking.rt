@@ -1,8 +1,10 @@
 //! Who sleeps beside a hub's lock, and who is woken. Which condvar a waiter sleeps on is no matter of safety: it asks
 //! again after each wake-up. docs/ARCHITECTURE.md says why no waiter is left asleep.
-ghost use Rattle.std.specs.Prelude.{◌≡◌};
+ghost use Rattle.std.specs.Prelude.{◌≡◌, false};
+ghost use Rattle.std.specs.Sync.Mutex.{mutex_guard_value};
+ghost use Rattle.commit_hub.specs.Desks.{is_resting};
 
-use crate::ledgers::Node;
+use crate::ledgers::NodeLedger;
 use crate::locked::Locked;
 use std::sync::{Condvar, MutexGuard, Wait};
 
@@ -26,13 +28,13 @@ impl Turn {
 /// What the lock guards: the desk with its books, the turn of the batch that lands next, and whether the flusher
 /// sleeps.
 #[derive(Drop)]
-pub(crate) struct Guarded<A: Node> {
+pub(crate) struct Guarded<A: NodeLedger> {
     pub(crate) locked: Locked<A>,
     turn: Turn,
     is_asleep: bool,
 }
 
-impl<A: Node> Guarded<A> {
+impl<A: NodeLedger> Guarded<A> {
     /// Before the first batch, with a flusher that does not sleep.
     pub(crate) fn new(locked: Locked<A>) -> Guarded<A> {
         Guarded {
@@ -52,7 +54,8 @@ impl<A: Node> Guarded<A> {
 
     /// Whether the flusher is to sleep, which it does then: nothing waits, and more may come.
     pub(crate) fn lets_sleep(&mut self) -> bool
-        ensures { self.new.locked ≡ self.old.locked }
+        ensures locked { self.new.locked ≡ self.old.locked }
+        ensures sleeps { result ≡ is_resting self.old.locked.is_wanted self.old.locked.shared.desk }
     {
         self.is_asleep = self.locked.is_idle();
         self.is_asleep
@@ -121,11 +124,13 @@ impl Bells {
     }
 
     /// Waits until there is something to launch, or nothing more comes.
-    pub(crate) fn wait_for_work<'a, R: Wait, A: Node>(
+    pub(crate) fn wait_for_work<'a, R: Wait, A: NodeLedger>(
         &self,
         rt: &R,
         guard: MutexGuard<'a, Guarded<A>>,
-    ) -> MutexGuard<'a, Guarded<A>> {
+    ) -> MutexGuard<'a, Guarded<A>>
+        ensures { is_resting (mutex_guard_value result).locked.is_wanted (mutex_guard_value result).locked.shared.desk ≡ false }
+    {
         self.work
             .wait_while(rt, guard, |guarded| guarded.lets_sleep())
     }

@@ -11,7 +11,8 @@ use Rattle.ring_records.specs.declared.candidate.Candidate.{Candidate}
 use Rattle.ring_records.specs.declared.key.Key.{Key}
 use Rattle.ring_records.specs.declared.notice.Notice.{Notice}
 use Rattle.ring_records.specs.declared.notice.Notice.TheVariants.{Decided, Retired}
-use Rattle.ring_records.specs.KeyOrder.{key_cmp, coded_key}
+use Rattle.ring_records.specs.KeyOrder.{key_cmp}
+use Rattle.ring_records.specs.Coded.{coded_key}
 use Rattle.ring_records.specs.Notices.{leader_in, floor_in}
 use Rattle.ring_records.specs.Props.{coded_candidate}
 

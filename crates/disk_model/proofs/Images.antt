@@ -4,7 +4,7 @@ use Rattle.std.proofs.Common.{length, take, drop, get_or, sym, ◌∙◌, ap, su
 use Rattle.std.proofs.lemmas.Bool.{cases_lt}
 use Rattle.std.proofs.lemmas.List.{get_or-take, get_or-drop, get_or_append_left, get_or-append_right, get_or-append-add, get_or_past, ext_get_or, get_or-replicate, length-replicate}
 use Rattle.std.proofs.Common.{replicate}
-use Rattle.disk_model.specs.Disk.{IsPart, Puts}
+use Rattle.disk_model.specs.Calls.{IsPart, Puts}
 use Rattle.disk_model.specs.Old.{is_stamped, old_byte}
 
 -- the front has each byte, as the rest is 0

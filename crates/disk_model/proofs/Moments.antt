@@ -1,6 +1,7 @@
 -- How time goes on over a call of a device that keeps its stretches, and over a run of calls.
 use Rattle.std.proofs.Common.{◌≡◌, ◌⊎◌, inl, inr, ⊎_elim, ℕ, zero, suc, ◌≤◌, List, [], ◌∷◌, ◌++◌, length, drop, refl, sym, subst, arith, length-append}
-use Rattle.disk_model.specs.Disk.{Disk, MayLeave, IsTorn, Unsyncs, Elapses, LeavesOnly}
+use Rattle.disk_model.specs.Disk.{Disk, MayLeave, IsTorn, LeavesOnly}
+use Rattle.disk_model.specs.Calls.{Unsyncs, Elapses}
 use Rattle.disk_model.specs.Stretches.{Past, LeftIn, LeftSince}
 use Rattle.disk_model.proofs.Ranges.{torn_more, after_write}
 

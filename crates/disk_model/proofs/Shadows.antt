@@ -1,7 +1,8 @@
 -- What is kept for a stop to bring back, over one write more.
 use Rattle.std.proofs.Common.{◌≡◌, ◌⊎◌, inl, inr, ⊎_elim, ℕ, ◌+◌, ◌-◌, ◌≤◌, ◌<◌, min, max, Bool, true, false, if◌then◌else◌, List, length, get_or, sym, ◌∙◌, ap, subst, arith}
 use Rattle.std.proofs.lemmas.Bool.{cases_lt}
-use Rattle.disk_model.specs.Disk.{Disk, IsOutside, IsInside, IsUnsynced, Unsyncs}
+use Rattle.disk_model.specs.Disk.{Disk, IsOutside}
+use Rattle.disk_model.specs.Calls.{IsInside, IsUnsynced, Unsyncs}
 use Rattle.disk_model.specs.Old.{is_stamped, old_byte}
 use Rattle.disk_model.proofs.Ranges.{outside_push, inside_push}
 

@@ -1,3 +1,4 @@
+pub mod Calls
 pub mod Disk
 pub mod Stretches
 pub mod Buffer

@@ -1,6 +1,7 @@
 // What a device promises to those who write on it.
 ghost use Rattle.std.specs.Prelude.{◌≡◌, ◌+◌, ◌≤◌, ℕ, List, length, OnOk, OnErr};
-ghost use Rattle.disk_model.specs.Disk.{Disk, MayLeave, IsPart, Puts, Unsyncs, synced, Elapses, HasCause, Reach, IsInReach};
+ghost use Rattle.disk_model.specs.Disk.{Disk, MayLeave, synced, Reach};
+ghost use Rattle.disk_model.specs.Calls.{IsPart, Puts, Unsyncs, Elapses, HasCause, IsInReach};
 
 use crate::system_fault::SystemFault;
 

@@ -7,7 +7,8 @@
 // asked of a file that has told an error, each call after one is a fault until the file is opened again. An exclusive
 // lock keeps out whoever asks for one.
 ghost use Rattle.std.specs.Prelude.{◌≡◌, ◌↔◌, ◌+◌, ◌-◌, ◌^◌, ◌≤◌, min, [], false, IsTrue, IsOk, IsErr, IfOk, OnOk, OnErr, length};
-ghost use Rattle.disk_model.specs.Disk.{IsPart, Puts, Unsyncs, synced, Elapses, HasCause, IsInReach};
+ghost use Rattle.disk_model.specs.Disk.{synced};
+ghost use Rattle.disk_model.specs.Calls.{IsPart, Puts, Unsyncs, Elapses, HasCause, IsInReach};
 ghost use Rattle.disk_model.specs.Buffer as buffer;
 
 use crate::buffer::Buffer;

@@ -1,6 +1,7 @@
 // A device whose calls fail when a test wants it.
 ghost use Rattle.std.specs.Prelude.{◌≡◌, ◌+◌, ◌-◌, ◌^◌, ◌<◌, ◌≤◌, min, ℕ, false, if◌then◌else◌, IsTrue, IsErr, OnOk, OnErr, length};
-ghost use Rattle.disk_model.specs.Disk.{IsPart, Puts, Unsyncs, synced, Elapses, HasCause, Reaches, IsInReach};
+ghost use Rattle.disk_model.specs.Disk.{synced, Reaches};
+ghost use Rattle.disk_model.specs.Calls.{IsPart, Puts, Unsyncs, Elapses, HasCause, IsInReach};
 ghost use Rattle.disk_model.specs.Fuse.{is_idle, fails_at, planned};
 
 use crate::{Device, DeviceFault, SystemCall, SystemFault};

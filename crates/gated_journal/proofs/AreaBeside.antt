@@ -1,11 +1,12 @@
 -- What an image reads as by its area, while one range of it changes.
 use Rattle.std.proofs.Common.{◌≡◌, ◌⊎◌, inl, inr, ⊎_elim, ℕ, ◌+◌, ◌-◌, ◌<◌, ◌≤◌, List, length, get_or, Bool, sym, ◌∙◌, subst, arith}
 use Rattle.std.proofs.lemmas.Bool.{cases_eq}
-use Rattle.disk_model.specs.Disk.{Changes}
+use Rattle.disk_model.specs.Calls.{Changes}
 use Rattle.ring_records.specs.declared.input.Input.{Input}
 use Rattle.ring_records.specs.Member.{Member}
 use Rattle.gated_journal.specs.Frames.{ReadsTo}
-use Rattle.gated_journal.specs.Areas.{AreAreas, epoch_at, Counts, HasBase, IsPlain, Begins, ReadsAt, IsGate}
+use Rattle.gated_journal.specs.Areas.{AreAreas, epoch_at, Counts, HasBase, IsPlain, Begins, ReadsAt}
+use Rattle.gated_journal.specs.AreaWritten.{IsGate}
 use Rattle.gated_journal.specs.Reading.{Reading}
 use Rattle.gated_journal.proofs.AreaKept.{frames_kept, base_kept, base_behind, older_kept, never_counts, within}
 use Rattle.gated_journal.proofs.Kept.{SameBytes, kept, fewer, byte_same, take_same, header_kept}

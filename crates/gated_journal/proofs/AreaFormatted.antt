@@ -6,7 +6,7 @@ use Rattle.std.specs.FinMap as fin
 use Rattle.std.specs.FinMap.{len-empty}
 use Rattle.std.specs.Int.{w32, w64, to_be_bytes}
 use Rattle.std.specs.List.{flat_map}
-use Rattle.disk_model.specs.Disk.{Puts}
+use Rattle.disk_model.specs.Calls.{Puts}
 use Rattle.ring_records.specs.declared.key_state.KeyState.{KeyState}
 use Rattle.ring_records.specs.Admission.{newest}
 use Rattle.ring_records.specs.KeyOrder.{key_cmp, group_cmp}
@@ -17,7 +17,8 @@ use Rattle.ring_records.proofs.Snapshots.{length-empty, end_of, floors-end}
 use Rattle.ring_records.proofs.SnapshotWhole.{keys-empty}
 use Rattle.ring_records.proofs.Sound.{sound-empty}
 use Rattle.ring_records.proofs.StatesInOrder.{len-values}
-use Rattle.gated_journal.specs.Areas.{new_areas, Counts, ReadsAt, IsGate, IsStaged}
+use Rattle.gated_journal.specs.Areas.{Counts, ReadsAt}
+use Rattle.gated_journal.specs.AreaWritten.{new_areas, IsGate, IsStaged}
 use Rattle.gated_journal.specs.Reading.{mark, fresh_area, number_at}
 use Rattle.gated_journal.proofs.AreaStaged.{staged, length-new_area}
 use Rattle.gated_journal.proofs.Kept.{put_behind, take_same}

@@ -7,7 +7,7 @@ use Rattle.ring_records.specs.declared.summary.Summary.{Summary}
 use Rattle.ring_records.specs.Member.{Member}
 use Rattle.ring_records.specs.Snapshot.{Spells}
 use Rattle.gated_journal.specs.Areas.{IsLayout, layout_at, epoch_at, frames_of, snapshot_at, AreAreas, Counts, HasBase, Begins, ReadsAt}
-use Rattle.gated_journal.specs.Choose.{IsUsed, IsInUseBy}
+use Rattle.gated_journal.specs.InUse.{IsUsed, IsInUseBy}
 use Rattle.gated_journal.specs.Damage.{AreAreasUnread}
 use Rattle.gated_journal.specs.Feeding.{IsAreaAt, IsContentless}
 use Rattle.gated_journal.specs.Frames.{ReadsTo}

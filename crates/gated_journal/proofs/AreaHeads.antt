@@ -2,11 +2,11 @@
 use Rattle.std.proofs.Common.{◌≡◌, ◌⊎◌, inl, inr, ⊎_elim, ℕ, zero, suc, ◌+◌, ◌*◌, ◌-◌, ◌<◌, ◌≤◌, List, ◌++◌, length, drop, replicate, get_or, refl, sym, ◌∙◌, ap, arith, length-append, length-drop}
 use Rattle.std.proofs.lemmas.Bool.{cases_lt}
 use Rattle.std.proofs.lemmas.List.{get_or-drop, get_or_append_left, get_or-append_right, get_or_past, length-replicate}
-use Rattle.disk_model.specs.Disk.{IsPart}
+use Rattle.disk_model.specs.Calls.{IsPart}
 use Rattle.disk_model.proofs.Images.{zeros}
 use Rattle.ring_records.specs.Admission.{newest, oldest_area}
 use Rattle.gated_journal.specs.Areas.{IsLayout}
-use Rattle.gated_journal.specs.Choose.{IsHeadOf}
+use Rattle.gated_journal.specs.InUse.{IsHeadOf}
 use Rattle.gated_journal.specs.Reading.{number_at}
 use Rattle.gated_journal.specs.declared.area.Head.{Head}
 

@@ -7,7 +7,7 @@ use Rattle.ring_records.specs.declared.summary.Summary.{Summary}
 use Rattle.ring_records.specs.Snapshot.{Spells}
 use Rattle.ring_records.specs.SnapshotPart.{NoMore}
 use Rattle.gated_journal.specs.Areas.{IsLayout, epoch_at}
-use Rattle.gated_journal.specs.Choose.{IsHeadOf}
+use Rattle.gated_journal.specs.InUse.{IsHeadOf}
 use Rattle.gated_journal.specs.Found.{IsHead, InSnapshot, InFrames, IsFound}
 use Rattle.gated_journal.specs.Frames.{body, frames}
 use Rattle.gated_journal.specs.Pieces.{IsNoArea, IsAreaDamaged}

@@ -3,16 +3,20 @@ use Rattle.std.proofs.Common.{◌≡◌, inl, inr, ⊎_elim, ℕ, ◌+◌, ◌�
 use Rattle.std.proofs.Math.Logic.{∥∥₁_elim}
 use Rattle.std.proofs.Math.Nat.{ℕ_set}
 use Rattle.std.proofs.Math.Bridge.{le_prop}
-use Rattle.disk_model.specs.Disk.{Disk, MayLeave, IsSynced, Changes}
+use Rattle.disk_model.specs.Disk.{Disk, MayLeave, IsSynced}
+use Rattle.disk_model.specs.Calls.{Changes}
 use Rattle.disk_model.proofs.Ranges.{synced_only}
 use Rattle.ring_records.specs.declared.input.Input.{Input}
 use Rattle.ring_records.specs.Admission.{costs_of}
 use Rattle.ring_records.specs.Member.{Member}
 use Rattle.ring_records.proofs.Counts.{costs-joined}
-use Rattle.gated_journal.specs.Frames.{ReadsTo, Appends}
-use Rattle.gated_journal.specs.Areas.{ReadsAt, AllReadAs, ReadsAsOneOf, ReadsAtOneOf, IsGate}
+use Rattle.gated_journal.specs.Frames.{ReadsTo}
+use Rattle.gated_journal.specs.AreaWritten.{Appends}
+use Rattle.gated_journal.specs.Areas.{ReadsAt, AllReadAs, ReadsAsOneOf}
+use Rattle.gated_journal.specs.AreaWritten.{ReadsAtOneOf, IsGate}
 use Rattle.gated_journal.specs.Place.{IsInUse, IsReadHere, Stands}
-use Rattle.gated_journal.specs.Reading.{Reading, with_more, count_in, used_in}
+use Rattle.gated_journal.specs.Reading.{Reading, with_more}
+use Rattle.gated_journal.specs.Opened.{count_in, used_in}
 use Rattle.gated_journal.specs.declared.area.Chosen.{Chosen}
 use Rattle.gated_journal.specs.declared.place.Place.{Place}
 use Rattle.gated_journal.proofs.AreaAlone.{alone}

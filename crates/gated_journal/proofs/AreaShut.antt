@@ -2,10 +2,11 @@
 use Rattle.std.proofs.Common.{◌≡◌, ◌≢◌, inl, inr, ⊎_elim, ℕ, zero, suc, ◌+◌, ◌-◌, ◌<◌, ◌≤◌, List, [], ◌∷◌, length, get_or, Bool, true, false, eqb, ◌&&◌, refl, sym, ◌∙◌, ap, subst, arith}
 use Rattle.std.proofs.lemmas.Bool.{and_parts, cases_lt, eqb-true, eq-eqb}
 use Rattle.std.proofs.lemmas.List.{get_or_past}
-use Rattle.disk_model.specs.Disk.{Changes, Puts}
+use Rattle.disk_model.specs.Calls.{Changes, Puts}
 use Rattle.disk_model.proofs.Changed.{byte_below, byte_above}
 use Rattle.ring_records.specs.Member.{Member}
-use Rattle.gated_journal.specs.Areas.{IsLayout, epoch_at, Counts, HasBase, IsPlain, Begins, ReadsAt, IsGate, leaves_closed, IsStaged, first_write}
+use Rattle.gated_journal.specs.Areas.{IsLayout, epoch_at, Counts, HasBase, IsPlain, Begins, ReadsAt}
+use Rattle.gated_journal.specs.AreaWritten.{IsGate, leaves_closed, IsStaged, first_write}
 use Rattle.gated_journal.specs.Reading.{Reading}
 use Rattle.gated_journal.proofs.AreaBeside.{InOrder, where_are, swapped, beside}
 use Rattle.gated_journal.proofs.AreaKept.{frames_kept, base_kept, older_kept, low, within, first_open}

@@ -3,12 +3,13 @@ use Rattle.std.proofs.Common.{◌≡◌, ℕ, zero, suc, ◌+◌, ◌*◌, ◌^�
 use Rattle.std.proofs.lemmas.List.{take_at, drop_at, drop-drop, get_or-drop}
 use Rattle.std.proofs.lemmas.Nat.{from_be_bytes-to_be_bytes_4, from_be_bytes-to_be_bytes_8}
 use Rattle.std.specs.Int.{w64, to_be_bytes}
-use Rattle.disk_model.specs.Disk.{Puts}
+use Rattle.disk_model.specs.Calls.{Puts}
 use Rattle.ring_records.specs.declared.summary.Summary.{Summary}
 use Rattle.ring_records.specs.Admission.{newest}
 use Rattle.ring_records.specs.Snapshot.{Spells, snapshot_of, snapshot_len}
 use Rattle.ring_records.proofs.Snapshots.{length-snapshot}
-use Rattle.gated_journal.specs.Areas.{layout_at, epoch_at, size_at, snapshot_at, new_area, blank_area, IsStaged}
+use Rattle.gated_journal.specs.Areas.{layout_at, epoch_at, size_at, snapshot_at}
+use Rattle.gated_journal.specs.AreaWritten.{new_area, blank_area, IsStaged}
 use Rattle.gated_journal.specs.Reading.{fresh_area, number_at}
 use Rattle.gated_journal.proofs.Kept.{put_behind}
 

@@ -2,10 +2,11 @@
 use Rattle.std.proofs.Common.{◌≡◌, ◌≢◌, inl, inr, ⊎_elim, ℕ, ◌+◌, ◌-◌, ◌<◌, ◌≤◌, List, [], ◌∷◌, ◌++◌, length, take, drop, get_or, sym, ◌∙◌, ap, subst, arith, append_assoc, length-append, length-drop, take-append-drop}
 use Rattle.std.proofs.lemmas.List.{take_at, drop-drop, drop_more, append-nil, get_or-drop, get_or-append_right}
 use Rattle.std.proofs.lemmas.Bool.{cases_eq}
-use Rattle.disk_model.specs.Disk.{Changes, Puts}
+use Rattle.disk_model.specs.Calls.{Changes, Puts}
 use Rattle.disk_model.proofs.Changed.{byte_above, puts_changes, widen, changes_trans}
 use Rattle.ring_records.specs.declared.input.Input.{Input}
-use Rattle.gated_journal.specs.Frames.{body, frames, joined, IsBatch, AreBatches, IsFrame, ReadsTo, Appends}
+use Rattle.gated_journal.specs.Frames.{body, frames, joined, IsBatch, AreBatches, ReadsTo}
+use Rattle.gated_journal.specs.AreaWritten.{IsFrame, Appends}
 use Rattle.gated_journal.proofs.Kept.{SameBytes, kept, part_same, drop_same, put_behind}
 
 -- ---- one batch more

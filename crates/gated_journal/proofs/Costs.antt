@@ -7,7 +7,8 @@ use Rattle.ring_records.specs.Member.{Member}
 use Rattle.ring_records.specs.Record.{record_of}
 use Rattle.ring_records.proofs.Counts.{costs-joined}
 use Rattle.ring_records.proofs.Records.{cost-record, record-long}
-use Rattle.gated_journal.specs.Frames.{records, body, frames, joined, HaveRecords, AreBatches, IsFrame, ReadsTo}
+use Rattle.gated_journal.specs.Frames.{records, body, frames, joined, HaveRecords, AreBatches, ReadsTo}
+use Rattle.gated_journal.specs.AreaWritten.{IsFrame}
 use Rattle.gated_journal.specs.Reading.{is_header}
 
 -- ---- sums of costs

@@ -3,11 +3,11 @@ use Rattle.std.proofs.Common.{◌≡◌, ◌⊎◌, inl, inr, ⊎_elim, ◌||◌
 use Rattle.std.specs.Str.{bytes_eq}
 use Rattle.std.proofs.lemmas.Bool.{and_parts, eqb-true, eq-eqb, le-leb, leb-true, le-ltb, ltb-false}
 use Rattle.std.proofs.lemmas.Slice.Eq.{bytes_eq-Decides}
-use Rattle.disk_model.specs.Disk.{IsPart}
+use Rattle.disk_model.specs.Calls.{IsPart}
 use Rattle.ring_records.specs.declared.refusal.Refusal.{Refusal}
 use Rattle.ring_records.specs.declared.refusal.Refusal.TheVariants.{NotFormatted, WrongNode, Damaged}
 use Rattle.ring_records.specs.Member.{Member, member}
-use Rattle.gated_journal.specs.Choose.{IsMarked}
+use Rattle.gated_journal.specs.InUse.{IsMarked}
 use Rattle.gated_journal.specs.Reading.{number_at, mark, old_mark, HasHeader}
 use Rattle.gated_journal.proofs.Kept.{take_same}
 use Rattle.gated_journal.specs.Unread.{head_at, header_at}

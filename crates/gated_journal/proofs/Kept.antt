@@ -2,7 +2,7 @@
 use Rattle.std.proofs.Common.{◌≡◌, ◌⊎◌, inl, ⊎_elim, ℕ, zero, suc, ◌+◌, ◌*◌, ◌-◌, ◌<◌, ◌≤◌, List, ◌++◌, length, take, drop, get_or, refl, sym, ◌∙◌, ap, arith, length-take, length-drop, take-append-drop, inr}
 use Rattle.std.proofs.lemmas.List.{drop-drop, ext_get_or, get_or-take, get_or-drop}
 use Rattle.ring_records.specs.Member.{Member}
-use Rattle.disk_model.specs.Disk.{Changes, Puts}
+use Rattle.disk_model.specs.Calls.{Changes, Puts}
 use Rattle.disk_model.proofs.Changed.{byte_below, byte_above}
 use Rattle.gated_journal.specs.Reading.{number_at, HasHeader, mark, old_mark}
 

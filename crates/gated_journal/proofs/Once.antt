@@ -11,7 +11,7 @@ use Rattle.ring_records.specs.declared.key_state.KeyState.{KeyState}
 use Rattle.ring_records.specs.declared.msg.Msg.{Msg}
 use Rattle.ring_records.specs.declared.summary.Summary.{Summary}
 use Rattle.ring_records.specs.Codes.{coded_summary}
-use Rattle.ring_records.specs.KeyOrder.{coded_group}
+use Rattle.ring_records.specs.Coded.{coded_group}
 use Rattle.ring_records.specs.Member.{Member}
 use Rattle.ring_records.specs.Message.{key_of}
 use Rattle.ring_records.specs.Snapshot.{IsCandidateOf, IsStateOf, IsMessageOf, IsSound, Spells}

@@ -5,7 +5,8 @@ use Rattle.std.proofs.lemmas.Bool.{lt-ltb, or_parts}
 use Rattle.ring_records.specs.declared.input.Input.{Input}
 use Rattle.ring_records.specs.declared.input.Input.TheVariants.{Stand, Take, Acked, Retire}
 use Rattle.ring_records.specs.Admission.{newest, is_retire}
-use Rattle.gated_journal.specs.Frames.{Suits, AreSuited, HaveRecords, IsFrame}
+use Rattle.gated_journal.specs.Frames.{Suits, AreSuited, HaveRecords}
+use Rattle.gated_journal.specs.AreaWritten.{IsFrame}
 
 -- an area of the newest layout, or of a later one, may hold each input
 pub newest-suits : (layout : ℕ) (x : Input) → newest ≤ layout → Suits layout x

@@ -3,7 +3,8 @@ use Rattle.std.proofs.Common.{◌≡◌, ℕ, eqb, true, false, ◌+◌, ◌<◌
 use Rattle.std.specs.Int.{w16, w32, to_be_bytes}
 use Rattle.std.proofs.lemmas.List.{append-nil, append_cancel_left, take_at}
 use Rattle.ring_records.specs.declared.input.Input.{Input}
-use Rattle.ring_records.specs.Record.{BeginsWith, record_of}
+use Rattle.ring_records.specs.Record.{record_of}
+use Rattle.ring_records.specs.RecordReading.{BeginsWith}
 use Rattle.ring_records.proofs.Records.{records-apart}
 use Rattle.gated_journal.specs.Frames.{records, Suits, HaveRecords}
 use Rattle.gated_journal.specs.NextFrame.{HasHead, TakesRecords, TakesFrame}

@@ -1,15 +1,13 @@
 -- The two areas of a journal, and what an image reads as by the one that is read. An area is a gate, a layout,
 -- an epoch, the length of a snapshot, the snapshot, and frames behind it.
-use Rattle.std.specs.Prelude.{◌≡◌, ◌≢◌, ◌⊎◌, ◌+◌, ◌==◌, ◌&&◌, ◌<◌, ◌≤◌, ℕ, Bool, true, false, if◌then◌else◌, List, [], ◌∷◌, ◌++◌, length, take, drop, slice_index}
-use Rattle.std.specs.Int.{w32, w64, to_be_bytes}
+use Rattle.std.specs.Prelude.{◌≡◌, ◌≢◌, ◌⊎◌, ◌+◌, ◌<◌, ◌≤◌, ℕ, List, length, take, drop, slice_index}
 use Rattle.disk_model.specs.Disk.{Disk, MayLeave}
-use Rattle.ring_records.specs.declared.summary.Summary.{Summary}
 use Rattle.ring_records.specs.Admission.{epochs, newest, oldest_area}
 use Rattle.ring_records.specs.Member.{Member}
-use Rattle.ring_records.specs.Snapshot.{Spells, snapshot_of, snapshot_len}
+use Rattle.ring_records.specs.Snapshot.{Spells}
 use Rattle.ring_records.specs.Summary.{empty}
 use Rattle.gated_journal.specs.Frames.{ReadsTo}
-use Rattle.gated_journal.specs.Reading.{Reading, number_at, mark, old_mark, HasHeader}
+use Rattle.gated_journal.specs.Reading.{Reading, number_at, old_mark, HasHeader}
 
 -- ---- an area
 
@@ -82,19 +80,7 @@ pub record IsPlain (start : ℕ) (image : List ℕ) (r : Reading) (offset : ℕ)
 abbrev pub Begins : ℕ → ℕ → List ℕ → Reading → ℕ → Type 0
 Begins n start image r offset = ((slice_index image start ≡ 1) × HasBase n start image r offset) ⊎ IsPlain start image r offset
 
--- the bytes behind the gate of an area without frames, and its closed gate
-abbrev pub new_area : ℕ → ℕ → Summary → List ℕ
-new_area layout epoch s = layout ∷ to_be_bytes w64 epoch ++ to_be_bytes w32 (snapshot_len layout s) ++ snapshot_of layout s ++ 0 ∷ []
-
--- the same with zeros in place of the layout and the epoch
-abbrev pub blank_area : ℕ → Summary → List ℕ
-blank_area layout s = 0 ∷ 0 ∷ 0 ∷ 0 ∷ 0 ∷ 0 ∷ 0 ∷ 0 ∷ 0 ∷ to_be_bytes w32 (snapshot_len layout s) ++ snapshot_of layout s ++ 0 ∷ []
-
 -- ---- the area that is read
-
--- a device without inputs: a header, and area A
-abbrev pub new_areas : Member → List ℕ
-new_areas header = mark ++ header.node ∷ header.n ∷ to_be_bytes w32 header.capacity ++ 0 ∷ 0 ∷ 1 ∷ new_area newest 1 empty
 
 -- The image has this header and reads as r: of what begins at `start`, with frames from `offset` on and the closed gate at
 -- `gate_at`. The other area does not count, or its epoch is less.
@@ -121,39 +107,3 @@ AllReadAs header disk r = (image : List ℕ) → MayLeave disk image → ReadsAs
 -- the image reads as the one or as the other
 abbrev pub ReadsAsOneOf : Member → Reading → Reading → List ℕ → Type 0
 ReadsAsOneOf header old new image = ReadsAs header image old ⊎ ReadsAs header image new
-
--- a moment of the opening of the other area: what was read before is read, or that area, whose closed gate is at `next`
-abbrev pub ReadsAtOneOf : Member → Reading → ℕ → ℕ → ℕ → ℕ → Reading → ℕ → List ℕ → Type 0
-ReadsAtOneOf header old start other offset gate_at new next image = ReadsAt header image old start other offset gate_at ⊎ ReadsAt header image new other start next next
-
--- ---- the area that is not in use
-
--- What is known of its gate: it is there and closed, or it is open if it is there.
-pub record IsGate (is_closed : Bool) (other : ℕ) (image : List ℕ) : Type 0 where
-  pub shut : is_closed ≡ true → (other < length image) × (slice_index image other ≢ 1)
-  pub not_shut : is_closed ≡ false → other < length image → slice_index image other ≡ 1
-
--- whether it is known so of an area that a checkpoint leaves: it is closed where frames were read plainly, and there were
--- none
-abbrev pub leaves_closed : ℕ → ℕ → ℕ → Bool
-leaves_closed layout start gate_at = layout == 1 && gate_at == start
-
--- where a checkpoint writes its first 0: to the gate, or behind one that is closed already
-abbrev pub first_write : Bool → ℕ → ℕ
-first_write is_closed other = if is_closed then other + 1 else other
-
--- behind its gate stands all of a new area, which is read once the gate is open
-pub record IsStaged (n other : ℕ) (image : List ℕ) (r : Reading) (offset : ℕ) : Type 0 where
-  pub there : other < length image
-  pub base : HasBase n other image r offset
-  pub frames : ReadsTo r.layout offset image r.inputs offset
-
--- The other area may be replaced by that of s in this epoch: the image is read at these places in a lesser one, and the
--- snapshot is sound and fits the capacity.
-pub record MayReplace (header : Member) (image : List ℕ) (old : Reading) (start other offset gate_at : ℕ) (is_closed : Bool) (epoch : ℕ) (s : Summary) : Type 0 where
-  pub reads : ReadsAt header image old start other offset gate_at
-  pub gate : IsGate is_closed other image
-  pub newer : old.epoch < epoch
-  pub small : epoch < epochs
-  pub spells : Spells newest header.n (snapshot_of newest s) s
-  pub fits : snapshot_len newest s ≤ header.capacity

@@ -1,8 +1,7 @@
 -- Frames of inputs, by the layout of their area, and what is read behind an offset. Numbers are big-endian.
-use Rattle.std.specs.Prelude.{◌≡◌, ◌≢◌, ◌⊎◌, ◌+◌, ◌≤◌, ℕ, true, List, [], ◌∷◌, ◌++◌, length, drop}
+use Rattle.std.specs.Prelude.{◌≡◌, ◌≢◌, ◌+◌, ◌≤◌, ℕ, true, List, [], ◌∷◌, ◌++◌, length, drop}
 use Rattle.std.specs.Int.{w16, w32, to_be_bytes}
 use Rattle.std.specs.List.{AllByRecursion}
-use Rattle.disk_model.specs.Disk.{Changes}
 use Rattle.ring_records.specs.declared.input.Input.{Input}
 use Rattle.ring_records.specs.declared.input.Input.TheVariants.{Stand, Take, Acked, Retire}
 use Rattle.ring_records.specs.declared.limits.TheConstants.{BATCH_INPUTS}
@@ -55,11 +54,6 @@ abbrev pub joined : List (List Input) → List Input
 joined [] = []
 joined (batch ∷ batches) = batch ++ joined batches
 
--- the bytes are the batch's frame behind its gate, and the next gate, which is closed
-pub record IsFrame (layout : ℕ) (batch : List Input) (bytes : List ℕ) : Type 0 where
-  pub is_batch : IsBatch layout batch
-  pub bytes_are : bytes ≡ body batch ++ 0 ∷ []
-
 -- ---- how they are read
 
 -- From this offset on there are frames of these inputs, in this layout, and then, at `gate_at`, one byte that is not 1: a closed gate.
@@ -73,9 +67,3 @@ pub record ReadsTo (layout offset : ℕ) (image : List ℕ) (inputs : List Input
   pub closed : gate ≢ 1
   pub same : inputs ≡ joined batches
   pub ends : gate_at ≡ offset + length (frames batches)
-
--- A moment of a commit of n bytes behind the gate at this offset: the frames have the batch or not, and no byte outside
--- the gate and the n bytes behind it has changed.
-pub record Appends (layout offset : ℕ) (inputs batch : List Input) (gate_at n : ℕ) (old new : List ℕ) : Type 0 where
-  pub frames : ReadsTo layout offset new inputs gate_at ⊎ ReadsTo layout offset new (inputs ++ batch) (gate_at + n)
-  pub changes : Changes gate_at (1 + n) old new

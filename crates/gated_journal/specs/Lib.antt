@@ -1,3 +1,4 @@
+pub mod AreaWritten
 pub mod Areas
 pub mod Batch
 pub mod Choose
@@ -5,13 +6,16 @@ pub mod Damage
 pub mod Feeding
 pub mod Found
 pub mod Frames
+pub mod InUse
 pub mod Journal
 pub mod Listed
 pub mod Newer
 pub mod NextFrame
+pub mod Opened
 pub mod Pieces
 pub mod Place
 pub mod Props
 pub mod Reading
 pub mod Unread
+pub mod WorkTaken
 pub mod Works

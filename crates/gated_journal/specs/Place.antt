@@ -2,9 +2,12 @@
 use Rattle.std.specs.Prelude.{◌≡◌, ◌-◌, ℕ, List}
 use Rattle.disk_model.specs.Disk.{Disk, IsSynced}
 use Rattle.ring_records.specs.Member.{Member}
-use Rattle.gated_journal.specs.Areas.{ReadsAt, IsGate}
-use Rattle.gated_journal.specs.Reading.{Reading, used_in, count_in}
-use Rattle.gated_journal.specs.Works.{flown_by, summary_by, reading_after, IsTaken}
+use Rattle.gated_journal.specs.Areas.{ReadsAt}
+use Rattle.gated_journal.specs.AreaWritten.{IsGate}
+use Rattle.gated_journal.specs.Reading.{Reading}
+use Rattle.gated_journal.specs.Opened.{used_in, count_in}
+use Rattle.gated_journal.specs.Works.{flown_by, summary_by, reading_after}
+use Rattle.gated_journal.specs.WorkTaken.{IsTaken}
 use Rattle.gated_journal.specs.declared.place.Place.{Place}
 use Rattle.gated_journal.specs.declared.work.Work.{Work}
 

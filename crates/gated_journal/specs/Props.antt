@@ -7,7 +7,8 @@ use Rattle.ring_records.specs.declared.input.Input.TheVariants.{Stand, Take, Ack
 use Rattle.ring_records.specs.declared.key.Key.{Key}
 use Rattle.ring_records.specs.Message.{key_of, candidate_of}
 use Rattle.ring_records.specs.Record.{IsKeyInRange, IsCandidateInRange, HasRecord}
-use Rattle.gated_journal.specs.Frames.{Suits, HaveRecords, IsBatch, IsFrame}
+use Rattle.gated_journal.specs.Frames.{Suits, HaveRecords, IsBatch}
+use Rattle.gated_journal.specs.AreaWritten.{IsFrame}
 
 pub key_prop : (key : Key) → IsProp (IsKeyInRange key)
 key_prop key p q i = record { name = Coded-set coded_bool _ _ p.name q.name i; from = le_prop p.from q.from i; to = le_prop p.to q.to i }

@@ -1,12 +1,9 @@
 -- What an image of a journal reads as, and the header that it begins with.
-use Rattle.std.specs.Prelude.{◌≡◌, ◌⊎◌, ◌+◌, ◌*◌, ◌≤◌, ℕ, zero, suc, Bool, nat_le, ◌&&◌, List, [], ◌++◌, length, take, slice_index, codes}
+use Rattle.std.specs.Prelude.{◌≡◌, ◌⊎◌, ◌+◌, ◌*◌, ◌≤◌, ℕ, zero, suc, Bool, nat_le, ◌&&◌, List, [], ◌++◌, take, slice_index, codes}
 use Rattle.ring_records.specs.declared.input.Input.{Input}
 use Rattle.ring_records.specs.declared.limits.TheConstants.{GREATEST_CAPACITY, LEAST_CAPACITY}
 use Rattle.ring_records.specs.declared.summary.Summary.{Summary}
-use Rattle.ring_records.specs.Admission.{area_bytes, costs_of}
 use Rattle.ring_records.specs.Member.{Member}
-use Rattle.ring_records.specs.Summary.{summary}
-use Rattle.gated_journal.specs.declared.opening.Opening.{Opening}
 
 -- ---- what is read
 
@@ -23,24 +20,6 @@ with_more r batch = record r { inputs = r.inputs ++ batch }
 -- an area without frames
 abbrev pub fresh_area : ℕ → ℕ → Summary → Reading
 fresh_area layout epoch base = record { layout = layout; epoch = epoch; base = base; inputs = [] }
-
--- what a journal was opened with
-abbrev pub reading_of_opening : Opening → Reading
-reading_of_opening o = record { layout = o.layout; epoch = o.epoch; base = o.base; inputs = o.inputs.items }
-
--- how many bytes of the capacity are used: by the snapshot, and by the inputs behind it
-abbrev pub used_in : Reading → ℕ
-used_in r = area_bytes r.layout r.base + costs_of r.inputs
-
--- how many inputs there are, those that are summarised among them
-abbrev pub count_in : Reading → ℕ
-count_in r = r.base.inputs + length r.inputs
-
--- it stands for the inputs h of node `me`: the summary is that of the first of them, and its inputs are the rest
-pub record StandsFor (me : ℕ) (r : Reading) (h : List Input) : Type 0 where
-  pub before : List Input
-  pub base : r.base ≡ summary me before
-  pub joined : h ≡ before ++ r.inputs
 
 -- ---- the header
 

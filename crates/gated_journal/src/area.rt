@@ -1,8 +1,11 @@
 //! The heads of a journal's two areas, and which of them is read.
 ghost use Rattle.std.specs.Prelude.{◌≡◌, ◌+◌, ◌≤◌, ◌<◌, ◌^◌, ◌⊎◌, ℕ, List, length, Decides, MatchOption, IfOk, IfErr, OnOk};
-ghost use Rattle.disk_model.specs.Disk.{MayLeave, IsPart, LeavesOnly, Reaches, IsInReach};
-ghost use Rattle.gated_journal.specs.Areas.{area_a, area_b, leaves_closed, AreAreas, Counts};
-ghost use Rattle.gated_journal.specs.Choose.{IsHeadOf, IsChosen, IsUnchosen, IsPlainly, IsUsed, IsUsedPlainly, IsInUseBy, IsMarked, start_of, other_of};
+ghost use Rattle.disk_model.specs.Disk.{MayLeave, LeavesOnly, Reaches};
+ghost use Rattle.disk_model.specs.Calls.{IsPart, IsInReach};
+ghost use Rattle.gated_journal.specs.Areas.{area_a, area_b, AreAreas, Counts};
+ghost use Rattle.gated_journal.specs.AreaWritten.{leaves_closed};
+ghost use Rattle.gated_journal.specs.Choose.{IsChosen, IsUnchosen, IsPlainly};
+ghost use Rattle.gated_journal.specs.InUse.{IsHeadOf, IsUsed, IsUsedPlainly, IsInUseBy, IsMarked, start_of, other_of};
 ghost use Rattle.gated_journal.specs.Damage.{AreAreasUnread};
 ghost use Rattle.gated_journal.specs.Unread.{IsFault};
 

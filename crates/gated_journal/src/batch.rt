@@ -2,7 +2,7 @@
 ghost use Rattle.std.specs.Prelude.{◌≡◌, ◌≤◌, ◌*◌, true, None, length, IfOk, IfErr, OnOk};
 ghost use Rattle.ring_records.specs.declared.limits.TheConstants.{BATCH_INPUTS};
 ghost use Rattle.ring_records.specs.Admission.{costs_of, newest};
-ghost use Rattle.gated_journal.specs.Frames.{IsFrame};
+ghost use Rattle.gated_journal.specs.AreaWritten.{IsFrame};
 ghost use Rattle.gated_journal.specs.Props.{IsFrame-prop};
 
 use crate::flown::Flown;

@@ -4,7 +4,7 @@ ghost use Rattle.std.specs.FinMap as map;
 ghost use Rattle.ring_records.specs.declared.summary.Summary.{Summary};
 ghost use Rattle.ring_records.specs.Admission.{newest};
 ghost use Rattle.ring_records.specs.Snapshot.{snapshot_len};
-ghost use Rattle.gated_journal.specs.Areas.{new_area, blank_area};
+ghost use Rattle.gated_journal.specs.AreaWritten.{new_area, blank_area};
 
 use crate::flown::Flown;
 use crate::layout::LAYOUT;

@@ -1,8 +1,10 @@
 //! The four device calls of a commit.
 ghost use Rattle.std.specs.Prelude.{◌≡◌, ◌+◌, ◌++◌, ◌<◌, ◌^◌, ℕ, List, length, OnOk};
-ghost use Rattle.disk_model.specs.Disk.{IsSynced, Changes, LeavesOnly, HasCause, IsInReach};
+ghost use Rattle.disk_model.specs.Disk.{IsSynced, LeavesOnly};
+ghost use Rattle.disk_model.specs.Calls.{Changes, HasCause, IsInReach};
 ghost use Rattle.ring_records.specs.declared.input.Input.{Input};
-ghost use Rattle.gated_journal.specs.Frames.{IsFrame, ReadsTo, Appends};
+ghost use Rattle.gated_journal.specs.Frames.{ReadsTo};
+ghost use Rattle.gated_journal.specs.AreaWritten.{IsFrame, Appends};
 
 use disk_model::{Device, DeviceFault, write_through};
 

@@ -3,7 +3,7 @@ ghost use Rattle.std.specs.Prelude.{ℕ, ◌≡◌, ◌+◌, ◌≤◌, ◌⊎�
 ghost use Rattle.disk_model.specs.Disk.{MayLeave, LeavesOnly, Reaches};
 ghost use Rattle.ring_records.specs.declared.refusal.Refusal.TheVariants.{OutOfMemory};
 ghost use Rattle.gated_journal.specs.Areas.{area_a, Begins, HasBase, head_len};
-ghost use Rattle.gated_journal.specs.Choose.{IsUsed, IsUsedPlainly, IsInUseBy, IsMarked, reading_of};
+ghost use Rattle.gated_journal.specs.InUse.{IsUsed, IsUsedPlainly, IsInUseBy, IsMarked, reading_of};
 ghost use Rattle.gated_journal.specs.Damage.{AreAreasUnread, IsPlainBroken};
 ghost use Rattle.gated_journal.specs.Feeding.{IsAreaAt, IsContentless};
 ghost use Rattle.gated_journal.specs.Frames.{ReadsTo};

@@ -1,10 +1,12 @@
 //! A new device of two areas.
 ghost use Rattle.std.specs.Prelude.{◌≡◌, ◌+◌, ◌*◌, true, IfOk, OnOk};
-ghost use Rattle.disk_model.specs.Disk.{IsSynced, HasCause, IsInReach};
+ghost use Rattle.disk_model.specs.Disk.{IsSynced};
+ghost use Rattle.disk_model.specs.Calls.{HasCause, IsInReach};
 ghost use Rattle.ring_records.specs.Admission.{newest};
 ghost use Rattle.ring_records.specs.Member.{member};
 ghost use Rattle.ring_records.specs.Summary.{empty};
-ghost use Rattle.gated_journal.specs.Areas.{area_a, area_b, new_areas, ReadsAt, IsGate};
+ghost use Rattle.gated_journal.specs.Areas.{area_a, area_b, ReadsAt};
+ghost use Rattle.gated_journal.specs.AreaWritten.{new_areas, IsGate};
 ghost use Rattle.gated_journal.specs.Reading.{device_size, fresh_area, is_header};
 
 use crate::layout::area_b;

@@ -1,5 +1,6 @@
 ghost use Rattle.std.specs.Prelude.{◌≡◌, ◌+◌, ◌-◌, ◌*◌, ◌⊎◌, ◌<◌, ◌≤◌, ◌^◌, ℕ, List, true, false, length, min, is_err, Decides, IfOk, IfErr, OnOk, OnErr, IsOk};
-ghost use Rattle.disk_model.specs.Disk.{MayLeave, LeavesOnly, HasCause, Reaches, synced};
+ghost use Rattle.disk_model.specs.Disk.{MayLeave, LeavesOnly, Reaches, synced};
+ghost use Rattle.disk_model.specs.Calls.{HasCause};
 ghost use Rattle.ring_records.specs.declared.limits.TheConstants.{GREATEST_CAPACITY, LEAST_CAPACITY};
 ghost use Rattle.ring_records.specs.Admission.{costs_of, newest};
 ghost use Rattle.ring_records.specs.Member.{member};
@@ -8,9 +9,11 @@ ghost use Rattle.ring_records.specs.Summary.{empty};
 ghost use Rattle.gated_journal.specs.Areas.{ReadsAs, AllReadAs, ReadsAsOneOf};
 ghost use Rattle.gated_journal.specs.Frames.{AreSuited};
 ghost use Rattle.gated_journal.specs.Place.{IsInUse};
-ghost use Rattle.gated_journal.specs.Reading.{Reading, device_size, with_more, fresh_area, reading_of_opening, count_in, used_in, is_header};
+ghost use Rattle.gated_journal.specs.Reading.{Reading, device_size, with_more, fresh_area, is_header};
+ghost use Rattle.gated_journal.specs.Opened.{reading_of_opening, count_in, used_in};
 ghost use Rattle.gated_journal.specs.Unread.{IsFault, IsUnread, IsUnopened};
-ghost use Rattle.gated_journal.specs.Works.{flown_by, summary_by, reading_after, count_after, room_after, layout_after, epoch_after, IsTaken};
+ghost use Rattle.gated_journal.specs.Works.{flown_by, summary_by, reading_after};
+ghost use Rattle.gated_journal.specs.WorkTaken.{count_after, room_after, layout_after, epoch_after, IsTaken};
 
 use crate::area::Chosen;
 use crate::contents::Contents;

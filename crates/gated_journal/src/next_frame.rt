@@ -1,7 +1,7 @@
 //! The frame at the front of bytes that may go on, behind its gate. Its inputs are taken without a growth.
 ghost use Rattle.std.specs.Prelude.{◌≡◌, ◌+◌, ◌-◌, ◌*◌, ◌≤◌, ℕ, true, false, List, [], length, vec_len, vec_capacity, MatchOption};
 ghost use Rattle.ring_records.specs.declared.input.Input.{Input};
-ghost use Rattle.ring_records.specs.Record.{BeginsWith};
+ghost use Rattle.ring_records.specs.RecordReading.{BeginsWith};
 ghost use Rattle.gated_journal.specs.Frames.{records, Suits, HaveRecords};
 ghost use Rattle.gated_journal.specs.NextFrame.{HasHead, TakesRecords, TakesFrame};
 ghost use Rattle.gated_journal.specs.Damage.{NoFrame};

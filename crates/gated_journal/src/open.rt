@@ -1,10 +1,12 @@
 //! What a device holds, read from its start.
 ghost use Rattle.std.specs.Prelude.{◌≡◌, ◌≤◌, ◌⊎◌, ℕ, List, Ok, Err, length, take, IfOk, IfErr, OnOk, OnErr};
-ghost use Rattle.disk_model.specs.Disk.{MayLeave, IsSynced, LeavesOnly, Reaches, IsInReach, synced};
+ghost use Rattle.disk_model.specs.Disk.{MayLeave, IsSynced, LeavesOnly, Reaches, synced};
+ghost use Rattle.disk_model.specs.Calls.{IsInReach};
 ghost use Rattle.ring_records.specs.declared.refusal.Refusal.TheVariants.{OutOfMemory};
 ghost use Rattle.ring_records.specs.Member.{member};
-ghost use Rattle.gated_journal.specs.Areas.{ReadsAt, IsGate};
-ghost use Rattle.gated_journal.specs.Choose.{reading_of, IsMarked};
+ghost use Rattle.gated_journal.specs.Areas.{ReadsAt};
+ghost use Rattle.gated_journal.specs.AreaWritten.{IsGate};
+ghost use Rattle.gated_journal.specs.InUse.{reading_of, IsMarked};
 ghost use Rattle.std.specs.Str.{bytes_eq};
 ghost use Rattle.gated_journal.specs.Reading.{old_mark};
 ghost use Rattle.gated_journal.specs.Frames.{ReadsTo};

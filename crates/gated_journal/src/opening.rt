@@ -2,7 +2,8 @@
 ghost use Rattle.std.specs.Prelude.{◌≡◌};
 ghost use Rattle.ring_records.specs.Admission.{newest};
 ghost use Rattle.ring_records.specs.Summary.{empty};
-ghost use Rattle.gated_journal.specs.Reading.{fresh_area, reading_of_opening};
+ghost use Rattle.gated_journal.specs.Reading.{fresh_area};
+ghost use Rattle.gated_journal.specs.Opened.{reading_of_opening};
 
 use crate::layout::LAYOUT;
 use ring_records::{Input, Summary};

@@ -5,7 +5,7 @@ ghost use Rattle.ring_records.specs.declared.input.Input.{Input};
 ghost use Rattle.ring_records.specs.declared.refusal.Refusal.TheVariants as refused;
 ghost use Rattle.ring_records.specs.Admission.{epochs};
 ghost use Rattle.gated_journal.specs.Areas.{IsLayout};
-ghost use Rattle.gated_journal.specs.Choose.{IsHeadOf};
+ghost use Rattle.gated_journal.specs.InUse.{IsHeadOf};
 ghost use Rattle.gated_journal.specs.Pieces.{IsAreaRead, IsAreaDamaged};
 ghost use Rattle.gated_journal.specs.Listed.{Lists, IsListed};
 ghost use Rattle.gated_journal.specs.Found.{InSnapshot, InFrames, IsFound, IsWaiting, IsBefore, IsOpen, IsRoom, Holds, HasRoom, AreAlike, IsReader, answer_of};

@@ -1,6 +1,7 @@
 //! Where a journal stands on its device, and how it comes to stand behind a work.
 ghost use Rattle.std.specs.Prelude.{◌≡◌, ◌+◌, ◌≤◌, ◌^◌, length, OnOk};
-ghost use Rattle.disk_model.specs.Disk.{LeavesOnly, HasCause, IsInReach, IsSynced};
+ghost use Rattle.disk_model.specs.Disk.{LeavesOnly, IsSynced};
+ghost use Rattle.disk_model.specs.Calls.{HasCause, IsInReach};
 ghost use Rattle.ring_records.specs.declared.limits.TheConstants.{GREATEST_CAPACITY, LEAST_CAPACITY};
 ghost use Rattle.ring_records.specs.Admission.{costs_of};
 ghost use Rattle.ring_records.specs.Member.{Member};
@@ -37,7 +38,8 @@ pub(crate) struct Place {
 impl Place {
     ghost use Rattle.gated_journal.specs.Batch.{kept_in};
     ghost use Rattle.gated_journal.specs.Place.{reading_behind, IsTakenAt, Stands};
-    ghost use Rattle.gated_journal.specs.Works.{flown_by, summary_by, count_after, used_after, layout_after, epoch_after};
+    ghost use Rattle.gated_journal.specs.Works.{flown_by, summary_by};
+    ghost use Rattle.gated_journal.specs.WorkTaken.{count_after, used_after, layout_after, epoch_after};
 
     /// Writes the work, whose gate is opened once all else is stable: what flew, where the journal stands once that is
     /// durable, and whether it is.

@@ -1,6 +1,7 @@
 //! A read of a device.
 ghost use Rattle.std.specs.Prelude.{◌≡◌, ◌+◌, ◌≤◌, length, IfErr, OnOk};
-ghost use Rattle.disk_model.specs.Disk.{MayLeave, IsPart, LeavesOnly, IsInReach};
+ghost use Rattle.disk_model.specs.Disk.{MayLeave, LeavesOnly};
+ghost use Rattle.disk_model.specs.Calls.{IsPart, IsInReach};
 ghost use Rattle.gated_journal.specs.Unread.{IsFault};
 
 use disk_model::Device;

@@ -1,11 +1,13 @@
 //! The six device calls of a checkpoint.
 ghost use Rattle.std.specs.Prelude.{◌≡◌, ◌+◌, ◌≤◌, ◌<◌, ◌^◌, ℕ, List, length, OnOk};
-ghost use Rattle.disk_model.specs.Disk.{IsSynced, LeavesOnly, HasCause, IsInReach};
+ghost use Rattle.disk_model.specs.Disk.{IsSynced, LeavesOnly};
+ghost use Rattle.disk_model.specs.Calls.{HasCause, IsInReach};
 ghost use Rattle.ring_records.specs.declared.summary.Summary.{Summary};
 ghost use Rattle.ring_records.specs.Admission.{epochs, newest};
 ghost use Rattle.ring_records.specs.Member.{Member};
 ghost use Rattle.ring_records.specs.Snapshot.{Spells, snapshot_of, snapshot_len};
-ghost use Rattle.gated_journal.specs.Areas.{ReadsAt, ReadsAtOneOf, IsGate, leaves_closed, IsStaged, MayReplace, new_area, head_len};
+ghost use Rattle.gated_journal.specs.Areas.{ReadsAt, head_len};
+ghost use Rattle.gated_journal.specs.AreaWritten.{ReadsAtOneOf, IsGate, leaves_closed, IsStaged, MayReplace, new_area};
 ghost use Rattle.gated_journal.specs.Reading.{Reading, fresh_area};
 
 use disk_model::{Device, DeviceFault, write_through};

@@ -3,7 +3,8 @@ ghost use Rattle.std.specs.Prelude.{◌≡◌, ◌≤◌, ◌+◌, ◌*◌, ◌^
 ghost use Rattle.ring_records.specs.declared.limits.TheConstants.{BATCH_INPUTS};
 ghost use Rattle.ring_records.specs.Admission.{costs_of, newest};
 ghost use Rattle.ring_records.specs.Record.{AreBytes, HasRecord, record_of};
-ghost use Rattle.gated_journal.specs.Frames.{IsFrame, records};
+ghost use Rattle.gated_journal.specs.Frames.{records};
+ghost use Rattle.gated_journal.specs.AreaWritten.{IsFrame};
 
 use ring_records::{BATCH_INPUTS, Input, write_record};
 use std::alloc::{AllocError, Global};

@@ -2,7 +2,8 @@
 ghost use Rattle.std.specs.Prelude.{◌≡◌, ◌≤◌, None, length};
 ghost use Rattle.ring_records.specs.declared.limits.TheConstants.{BATCH_INPUTS};
 ghost use Rattle.gated_journal.specs.Batch.{is_checkpoint};
-ghost use Rattle.gated_journal.specs.Works.{flown_by, summary_by, syncs_of};
+ghost use Rattle.gated_journal.specs.Works.{flown_by, summary_by};
+ghost use Rattle.gated_journal.specs.WorkTaken.{syncs_of};
 
 use crate::{Batch, Checkpoint};
 

@@ -13,8 +13,10 @@ use Rattle.ring_records.specs.declared.base.Base.{Base}
 use Rattle.ring_records.proofs.Admission.{or_else-none, where_so-none, or_else-free, where_so-free}
 use Rattle.ring_records.proofs.States.{idle-base}
 use Rattle.ring_records.proofs.Lists.{none≢some}
-use Rattle.group_commit.specs.Desk.{DeskView, DeskKept, known_all, frees_room, is_due, launch_objection, checkpoint_objection, epochs, needs_checkpoint, MayRenew}
-use Rattle.group_commit.specs.Next.{is_checkpoint_next, is_to_make_room, IsUnlaunched}
+use Rattle.group_commit.specs.Desk.{DeskView, DeskKept, known_all, frees_room, is_due, epochs}
+use Rattle.group_commit.specs.Launching.{launch_objection, checkpoint_objection, needs_checkpoint, MayRenew}
+use Rattle.group_commit.specs.Next.{is_to_make_room}
+use Rattle.group_commit.specs.Launching.{is_checkpoint_next, IsUnlaunched}
 
 -- where nothing is against a launch, nothing flies
 pub idle_free : (d : DeskView) → launch_objection d ≡ None → is_idle d.state ≡ true

@@ -9,7 +9,8 @@ use Rattle.ring_records.specs.declared.input.Input.{Input}
 use Rattle.ring_records.specs.declared.input.Input.TheVariants.{Stand, Take, Acked, Retire}
 use Rattle.ring_records.specs.Admission.{cost, costs_of, used}
 use Rattle.ring_records.specs.States as states
-use Rattle.ring_records.specs.States.{NodeState, IsNodeState, launched_base, durable_in, flown_in, flying_in}
+use Rattle.ring_records.specs.States.{NodeState, launched_base, durable_in, flown_in, flying_in}
+use Rattle.ring_records.specs.Lawful.{IsNodeState}
 use Rattle.ring_records.proofs.Lists.{none≢some}
 
 -- each input takes 13 bytes at least
@@ -54,10 +55,6 @@ durable_costs s counts = ap (used s.base) (sym (take-append-drop s.durable s.inp
 -- all that wait or fly, as a part of the inputs
 pub not_durable : (s : NodeState) → take (length s.inputs - s.durable) (drop s.durable s.inputs) ≡ drop s.durable s.inputs
 not_durable s = take_all (length s.inputs - s.durable) (drop s.durable s.inputs) (omega (arith, length-drop s.durable s.inputs))
-
--- what flies is as long as it says
-pub flown_count : (s : NodeState) → IsNodeState s → s.flying ≡ s.durable + length (flying_in s)
-flown_count s counts = omega (arith, counts.durable, counts.flying, length-take (s.flying - s.durable) (drop s.durable s.inputs), length-drop s.durable s.inputs)
 
 -- where nothing but a batch flies, the area in use stays
 pub base_stays : (s : NodeState) → s.checkpoint ≡ None → launched_base s ≡ s.base

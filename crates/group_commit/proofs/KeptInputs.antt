@@ -12,7 +12,8 @@ use Rattle.ring_records.specs.declared.summary.Summary.{Summary}
 use Rattle.ring_records.specs.Known.{after, stepped}
 use Rattle.ring_records.specs.Member.{Member}
 use Rattle.ring_records.specs.Snapshot.{IsSound}
-use Rattle.ring_records.specs.States.{NodeState, IsNodeState, launched_base}
+use Rattle.ring_records.specs.States.{NodeState, launched_base}
+use Rattle.ring_records.specs.Lawful.{IsNodeState}
 use Rattle.ring_records.proofs.Lists.{none≢some}
 use Rattle.node_core.specs.Core.{CoreView, IsNodeOf}
 use Rattle.group_commit.specs.Inputs.{IsKept, KeepsMarks}

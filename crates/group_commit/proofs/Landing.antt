@@ -1,5 +1,5 @@
 -- What lands at a desk: what its inputs that flew bring, by what was known before them.
-use Rattle.std.proofs.Common.{◌≡◌, ℕ, ◌+◌, ◌-◌, ◌≤◌, List, [], ◌∷◌, ◌++◌, length, take, drop, refl, sym, ap, ◌∙◌, subst, append_assoc, arith, None}
+use Rattle.std.proofs.Common.{◌≡◌, ℕ, ◌+◌, ◌-◌, ◌≤◌, List, [], ◌∷◌, ◌++◌, length, take, drop, refl, sym, ap, ◌∙◌, subst, append_assoc, arith}
 use Rattle.std.proofs.Math.Seq.{take-add}
 use Rattle.std.proofs.lemmas.Bool.{lt-ltb, le-ltb}
 use Rattle.std.proofs.lemmas.List.{length-append, length-take-le, length-drop, drop-drop, take-append-drop, take-append-le, drop-append-le, take_all, drop_all}
@@ -14,13 +14,13 @@ use Rattle.ring_records.specs.declared.summary.Summary.{Summary}
 use Rattle.ring_records.specs.Admission.{IsAllowed}
 use Rattle.ring_records.specs.Emission.{carry}
 use Rattle.ring_records.specs.History.{taken}
-use Rattle.ring_records.specs.Known.{Objects, stepped, after}
-use Rattle.ring_records.specs.Leader.{told}
+use Rattle.ring_records.specs.Known.{stepped, after}
+use Rattle.ring_records.specs.Decided.{told}
 use Rattle.ring_records.specs.Lists.{EachAfter}
 use Rattle.ring_records.specs.Member.{Member}
 use Rattle.ring_records.specs.Release.{carries, credit_where, credits, packets, notices}
 use Rattle.ring_records.specs.Summary.{summary}
-use Rattle.ring_records.proofs.Growth.{taken-append, EachAfter-take}
+use Rattle.ring_records.proofs.Growth.{taken-append}
 use Rattle.node_core.specs.declared.effects.Effects.{Effects}
 use Rattle.group_commit.specs.declared.outbox.Outbox.{Outbox}
 use Rattle.group_commit.specs.Kept.{HoldsFor}
@@ -65,10 +65,6 @@ pub free : (me n start end : ℕ) (opening : Summary) (inputs : List Input) → 
 free me n start end opening inputs within each =
     free-part me n opening (take start inputs) (part start end inputs) (drop end inputs)
     (subst (AreFree me n opening) (sym (take-append-drop start inputs) ∙ ap (λ l. take start inputs ++ l) (part-rest start end inputs within)) each)
-
--- nor against the first of them
-pub free-first : (me n k : ℕ) (opening : Summary) (inputs : List Input) → AreFree me n opening inputs → AreFree me n opening (take k inputs)
-free-first me n k opening inputs each = EachAfter-take (λ before x. Objects n (after me opening before) x None) k inputs each
 
 -- what they bring stood first
 pub brought-part : (me : ℕ) (s : Summary) (l rest : List Input) (waiting : List Effects) → waiting ≡ brought_after me s (l ++ rest) → take (length l) waiting ≡ brought_after me s l

@@ -1,32 +1,21 @@
 -- What the inputs of a node since its opening sent, behind what it knew as sent then.
-use Rattle.std.proofs.Common.{ℕ, ◌≡◌, ◌≤◌, List, [], ◌∷◌, ◌++◌, length, drop, sym, ap, ◌∙◌, append-nil, append_assoc, subst, arith}
+use Rattle.std.proofs.Common.{ℕ, ◌≡◌, ◌≤◌, List, [], ◌∷◌, ◌++◌, length, drop, sym, ap, ◌∙◌, append_assoc, subst, arith}
 use Rattle.std.specs.List.{cons_option}
 use Rattle.std.proofs.lemmas.List.{drop-append-le, length-append}
 use Rattle.ring_records.specs.declared.input.Input.{Input}
 use Rattle.ring_records.specs.declared.msg.Msg.{Msg}
 use Rattle.ring_records.specs.declared.summary.Summary.{Summary}
 use Rattle.ring_records.specs.Emission.{emit, sent}
-use Rattle.ring_records.specs.History.{credit}
 use Rattle.ring_records.specs.Known.{after, sends}
 use Rattle.ring_records.specs.Member.{Member}
 use Rattle.ring_records.proofs.History.{sent-push}
-use Rattle.ring_records.proofs.Known.{sends-known, credit-sent}
-use Rattle.group_commit.specs.Past.{IsPast}
+use Rattle.ring_records.proofs.Known.{sends-known}
 use Rattle.group_commit.proofs.Past.{Follows}
 
 -- they are all that the history sent, from this number on
 pub record AreSent (me first : ℕ) (messages : List Msg) (h : List Input) : Type 0 where
   pub is : messages ≡ drop first (sent me h)
   pub within : first ≤ length (sent me h)
-
-pub sent-opened : (m : Member) (opening : Summary) (past : List Input) → IsPast m opening past → AreSent m.node opening.credit opening.window (past ++ [])
-sent-opened m opening past is =
-    let first : opening.credit ≡ credit past = λ i. (is.summed i).credit in
-    let window : opening.window ≡ drop (credit past) (sent m.node past) = λ i. (is.summed i).window in
-    subst (AreSent m.node opening.credit opening.window) (sym (append-nil past)) (record {
-      is = window ∙ (λ i. drop (sym first i) (sent m.node past));
-      within = subst (λ k. k ≤ length (sent m.node past)) (sym first) (credit-sent m.node m.n past is.allowed);
-    })
 
 pub sent-next : (m : Member) (opening : Summary) (past l : List Input) (x : Input) (first : ℕ) (messages : List Msg) → Follows m opening past l → AreSent m.node first messages (past ++ l)
     → AreSent m.node first (messages ++ cons_option (sends m.node (after m.node opening l) x) []) (past ++ (l ++ x ∷ []))

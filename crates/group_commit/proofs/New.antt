@@ -7,7 +7,7 @@ use Rattle.ring_records.specs.declared.base.Base.{Base}
 use Rattle.ring_records.specs.declared.input.Input.{Input}
 use Rattle.ring_records.specs.declared.refusal.Refusal.{Refusal}
 use Rattle.ring_records.specs.declared.summary.Summary.{Summary}
-use Rattle.ring_records.specs.Admission.{IsAdmitted, IsLawful}
+use Rattle.ring_records.specs.Lawful.{IsAdmitted, IsLawful}
 use Rattle.ring_records.specs.Lists.{EachAfter}
 use Rattle.ring_records.specs.Member.{Member}
 use Rattle.ring_records.specs.States.{NodeState}
@@ -15,7 +15,7 @@ use Rattle.ring_records.specs.Summary.{empty}
 use Rattle.ring_records.proofs.Admission.{admitted-free}
 use Rattle.ring_records.proofs.Growth.{EachAfter-at}
 use Rattle.ring_records.proofs.Lists.{none≢some}
-use Rattle.ring_records.proofs.LookBack.{IsItem, cut-item}
+use Rattle.ring_records.proofs.Iteration.{IsItem, cut-item}
 use Rattle.ring_records.proofs.Sound.{summary-none}
 use Rattle.group_commit.specs.Desk.{DeskKept, seen}
 use Rattle.group_commit.specs.Opening.{opened_core, core_after, IsUnlawful, IsOf}

@@ -19,12 +19,14 @@ use Rattle.ring_records.specs.declared.request.Request.{Request}
 use Rattle.ring_records.specs.declared.request.Request.TheVariants as ask
 use Rattle.ring_records.specs.declared.room.Room.{Room}
 use Rattle.ring_records.specs.declared.summary.Summary.{Summary}
-use Rattle.ring_records.specs.Admission.{area_bytes, base_of, costs_of, fresh, is_retire, no_room, room_of, snapshot_len, used, shortage, objection, refusal, where_so, retired, HasRoom, Fits, IsAllowed, IsAdmitted, IsBaseOf, IsLawful, newest}
+use Rattle.ring_records.specs.Admission.{area_bytes, base_of, costs_of, is_retire, no_room, room_of, snapshot_len, used, shortage, objection, refusal, where_so, retired, IsAllowed, IsBaseOf, newest}
+use Rattle.ring_records.specs.Lawful.{HasRoom, Fits, IsAdmitted, IsLawful}
 use Rattle.ring_records.specs.Answer.{input_of, if_free, unless, gained, reply, answered}
 use Rattle.ring_records.specs.Emission.{sent, carry}
 use Rattle.ring_records.specs.History.{floor, is_retired, credit}
-use Rattle.ring_records.specs.Known.{Objects, known_of, leader_of, leads_in, stepped, after}
-use Rattle.ring_records.specs.Leader.{IsLatest, first_leader, leader, latest, told}
+use Rattle.ring_records.specs.Known.{Objects, stepped, after}
+use Rattle.ring_records.specs.Leader.{first_leader, leader}
+use Rattle.ring_records.specs.Decided.{told}
 use Rattle.ring_records.specs.Lists.{or_else, found_after, EachAfter}
 use Rattle.ring_records.specs.Member.{Member}
 use Rattle.ring_records.specs.States.{NodeState, launched_base, durable_in, flying_in, answered_by, gained_by}
@@ -32,15 +34,15 @@ use Rattle.ring_records.specs.Summary.{summary}
 use Rattle.ring_records.proofs.Admission.{objection-allowed}
 use Rattle.ring_records.proofs.Growth.{EachAfter-take}
 use Rattle.ring_records.proofs.History.{if_live-none}
-use Rattle.ring_records.proofs.Known.{leader-known, objects-known, credit-next, credit-sent}
+use Rattle.ring_records.proofs.Known.{objects-known, credit-next, credit-sent}
 use Rattle.ring_records.proofs.RetireStep.{stepped-known}
-use Rattle.ring_records.proofs.Latest.{latest_is, latest_same, one_latest}
 use Rattle.ring_records.proofs.Lists.{along, EachAfter-push}
 use Rattle.node_core.specs.Brought.{brought, who_after, who_by}
 use Rattle.node_core.specs.Core.{CoreView, Refuses}
 use Rattle.node_core.specs.declared.effects.Effects.{Effects}
-use Rattle.node_core.proofs.Histories.{carries, tells, who_known}
-use Rattle.group_commit.specs.Opening.{IsOf, Replies, who_reply}
+use Rattle.node_core.proofs.Histories.{carries, leads_last, tells, who_known}
+use Rattle.group_commit.specs.Opening.{IsOf}
+use Rattle.group_commit.specs.Replying.{Replies, who_reply}
 use Rattle.group_commit.specs.Past.{IsPast, moved, shifted}
 use Rattle.group_commit.specs.Since.{IsOpenSince, IsLawfulSince, IsAreaOf, IsKnownState, core_in}
 use Rattle.group_commit.specs.Ticket.{answered_with}
@@ -68,16 +70,6 @@ refused-is core base h x o of (first, objects, e) =
     go None is =
         let next = ap (λ (k : Summary). stepped core.me k x) of.knows ∙ stepped-known core.me core.size h x of.allowed (objection-allowed core.me core.size h x (sym is)) in
         (λ i. no_room core.capacity (of.room i) x (snapshot_len newest (next i))) ∙ room_asked core.me core.capacity base h x of.within
-
-leads : (core : CoreView) (base : Base) (h : List Input) (key : Key) → IsOf core base h → leader_of (known_of core.known key) ≡ leader core.me h key
-leads core base h key of = ap (λ (k : Summary). leader_of (known_of k key)) of.knows ∙ leader-known core.me h key
-
-leads_last : (core : CoreView) (base : Base) (h : List Input) (group : List ℕ) (led : Option (ℕ × Candidate)) → IsOf core base h → IsLatest (leads_in core.known group) led
-    → led ≡ latest core.me h group
-leads_last core base h group led of is =
-    one_latest (λ term. leader core.me h (record { group = group; term = term })) led (latest core.me h group)
-    (latest_same (leads_in core.known group) (λ term. leader core.me h (record { group = group; term = term })) (λ term. sym (leads core base h (record { group = group; term = term }) of)) led is)
-    (latest_is core.me h group)
 
 -- who leads, or why that is not told
 pub who_said : (me : ℕ) (h : List Input) (key : Key) → who_reply (who_by (summary me h) key) ≡ unless (retired h key) (say.Leader (leader me h key))
@@ -122,7 +114,7 @@ answers core base h (ask.Retire group new) given more of (o, refuses, says, gain
     (says ∙ ap (λ p. unless p say.Retired) same, gains ∙ ap (λ p. if_free p (Retire group new)) same)
 answers core base h (ask.Who key) given more of (says, none) =
     (says ∙ (ap (λ (k : Summary). who_reply (who_by k key)) of.knows ∙ who_said core.me h key), ap (λ o. cons_option o []) none)
-answers core base h (ask.Latest group) given more of (led, is, says, none) = (says ∙ ap say.Latest (leads_last core base h group led of is), ap (λ o. cons_option o []) none)
+answers core base h (ask.Latest group) given more of (led, is, says, none) = (says ∙ ap say.Latest (leads_last core.me core.known h group led of.knows is), ap (λ o. cons_option o []) none)
 
 -- ---- parts of the whole history
 
@@ -310,9 +302,7 @@ given_is m opening past s core q given more number is known knows replies count 
 -- ---- what its inputs bring
 
 brought-known : (me : ℕ) (h : List Input) (x : Input) → brought me (summary me h) x ≡ record { carry = carry me h x; notice = told me h x }
-brought-known me h x =
-    let core : CoreView = record { me = me; size = 0; capacity = 0; known = summary me h; room = room_of fresh h } in
-    λ i. record { carry = carries core h x (record { knows = refl; room = refl }) i; notice = tells core h x (record { knows = refl; room = refl }) i }
+brought-known me h x = λ i. record { carry = carries me (summary me h) h x refl i; notice = tells me (summary me h) h x refl i }
 
 pub found-known : {B : Type 0} (part : Effects → Option B) (f : List Input → Input → Option B) (me n : ℕ)
     → ((h : List Input) (x : Input) → part (record { carry = carry me h x; notice = told me h x }) ≡ f h x)

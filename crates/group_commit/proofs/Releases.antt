@@ -17,7 +17,7 @@ use Rattle.ring_records.specs.Known.{Objects, retired_in, stood_of, known_of, se
 use Rattle.ring_records.specs.Lists.{or_else}
 use Rattle.ring_records.specs.Release.{numbered}
 use Rattle.ring_records.proofs.Admission.{or_else-none, where_so-none}
-use Rattle.ring_records.proofs.LookBack.{IsItem, take-item}
+use Rattle.ring_records.proofs.Iteration.{IsItem, take-item}
 use Rattle.neighbour_link.specs.Outlink.{LinkView, sent_count}
 use Rattle.node_core.specs.Brought.{brought}
 use Rattle.node_core.proofs.Histories.{brought-carry}

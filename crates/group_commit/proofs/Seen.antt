@@ -9,19 +9,22 @@ use Rattle.ring_records.specs.declared.base.Base.{Base}
 use Rattle.ring_records.specs.declared.input.Input.{Input}
 use Rattle.ring_records.specs.declared.request.Request.{Request}
 use Rattle.ring_records.specs.declared.summary.Summary.{Summary}
-use Rattle.ring_records.specs.Admission.{newest, IsAllowed, IsAdmitted, IsBaseOf, IsLawful}
+use Rattle.ring_records.specs.Admission.{newest, IsAllowed, IsBaseOf}
+use Rattle.ring_records.specs.Lawful.{IsAdmitted, IsLawful}
 use Rattle.ring_records.specs.Known.{Objects, after}
 use Rattle.ring_records.specs.Lists.{EachAfter}
 use Rattle.ring_records.specs.Member.{Member}
 use Rattle.ring_records.specs.States as states
 use Rattle.ring_records.specs.Snapshot.{snapshot_len}
-use Rattle.ring_records.specs.States.{NodeState, IsLawfulState, launched_base, durable_in, flown_in, gained_by}
+use Rattle.ring_records.specs.States.{NodeState, launched_base, durable_in, flown_in, gained_by}
+use Rattle.ring_records.specs.Lawful.{IsLawfulState}
 use Rattle.ring_records.specs.Summary.{summary}
 use Rattle.ring_records.proofs.Growth.{EachAfter-take}
 use Rattle.ring_records.proofs.RetireStep.{after-known}
 use Rattle.ring_records.proofs.Known.{}
 use Rattle.ring_records.proofs.Lists.{none≢some}
-use Rattle.group_commit.specs.Desk.{DeskKept, first_base, seen, submitted, launched, launched_all, landed, IsSubmitted}
+use Rattle.group_commit.specs.Desk.{DeskKept, first_base, seen, submitted, launched, landed, IsSubmitted}
+use Rattle.group_commit.specs.Launching.{launched_all}
 use Rattle.group_commit.specs.Kept.{state_with}
 use Rattle.group_commit.specs.Opening.{opened_core, IsKnownLawful}
 use Rattle.group_commit.specs.Past.{IsPast, moved, shifted}

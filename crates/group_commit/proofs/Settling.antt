@@ -8,7 +8,7 @@ use Rattle.ring_records.specs.declared.summary.Summary.{Summary}
 use Rattle.ring_records.specs.Known.{Objects, stepped, after}
 use Rattle.ring_records.proofs.Growth.{EachAfter-at}
 use Rattle.ring_records.proofs.Lists.{filter_map-push}
-use Rattle.ring_records.proofs.LookBack.{IsItem, take-item, cut-item}
+use Rattle.ring_records.proofs.Iteration.{IsItem, take-item, cut-item}
 use Rattle.node_core.specs.Brought.{brought}
 use Rattle.node_core.specs.declared.effects.Effects.{Effects}
 use Rattle.group_commit.specs.declared.landed.Landed.{Landed}

@@ -12,7 +12,8 @@ use Rattle.ring_records.specs.declared.base.Base.{Base}
 use Rattle.ring_records.specs.declared.input.Input.{Input}
 use Rattle.ring_records.specs.declared.room.Room.{Room}
 use Rattle.ring_records.specs.declared.summary.Summary.{Summary}
-use Rattle.ring_records.specs.Admission.{area_bytes, costs_of, is_retire, must_renew, newest, no_room, room_of, snapshot_len, state_len, used, HasRoom}
+use Rattle.ring_records.specs.Admission.{area_bytes, costs_of, is_retire, must_renew, newest, no_room, room_of, snapshot_len, state_len, used}
+use Rattle.ring_records.specs.Lawful.{HasRoom}
 use Rattle.ring_records.specs.Known.{stepped, after}
 use Rattle.ring_records.specs.Lists.{EachAfter}
 use Rattle.ring_records.specs.Member.{Member}
@@ -27,7 +28,8 @@ use Rattle.ring_records.proofs.StatesInOrder.{len-values}
 use Rattle.node_core.specs.Core.{CoreView, Refuses}
 use Rattle.gated_journal.specs.Frames.{AreSuited}
 use Rattle.gated_journal.proofs.Suited.{newest-all, plain-all}
-use Rattle.group_commit.specs.Desk.{DeskKept, epochs, needs_checkpoint, MayRenew}
+use Rattle.group_commit.specs.Desk.{DeskKept, epochs}
+use Rattle.group_commit.specs.Launching.{needs_checkpoint, MayRenew}
 use Rattle.group_commit.specs.Kept.{area_behind, state_with}
 use Rattle.group_commit.specs.Opening.{opened_core, core_after, room_past, waits_for_area, IsOpenTo, IsKnownLawful}
 use Rattle.group_commit.specs.Since.{IsOpenSince, IsLawfulSince, IsAreaOf, IsKnownState, core_in}
@@ -133,10 +135,6 @@ drop_first (suc d) (suc k) [] = sym (none (suc k - suc d))
     none zero = refl
     none (suc n) = refl
 drop_first (suc d) (suc k) (x ∷ l) = let same : k - d ≡ suc k - suc d = omega arith in drop_first d k l ∙ ap (λ n. take n (drop d l)) same
-
-off : (b : Bool) → (b && false) ≡ false
-off true = refl
-off false = refl
 
 -- where none of the inputs waits for an area, none of the first does
 pub first_plain : (base : Base) (k : ℕ) (l : List Input) → waits_for_area base l ≡ false → waits_for_area base (take k l) ≡ false

@@ -25,11 +25,11 @@ use Rattle.ring_records.proofs.Growth.{slice_get-behind}
 use Rattle.ring_records.proofs.Known.{leader-known, objects-known}
 use Rattle.ring_records.proofs.Latest.{latest_is, latest_same, one_latest}
 use Rattle.ring_records.proofs.Lists.{none≢some}
-use Rattle.ring_records.proofs.LookBack.{shortage-full}
+use Rattle.ring_records.proofs.Iteration.{shortage-full}
 use Rattle.std.proofs.lemmas.Bool.{lt-ltb}
 use Rattle.node_core.specs.Brought.{who_by}
 use Rattle.node_core.specs.Core.{FreeView}
-use Rattle.group_commit.specs.Opening.{who_reply}
+use Rattle.group_commit.specs.Replying.{who_reply}
 use Rattle.group_commit.specs.Past.{shifted}
 use Rattle.group_commit.specs.Vouch.{acceptance, Accepts, IsInput, IsVouched, RepliesFull, refused_or_full}
 use Rattle.group_commit.proofs.Past.{take-front, who_said}

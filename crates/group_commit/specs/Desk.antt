@@ -9,20 +9,20 @@ use Rattle.ring_records.specs.declared.refusal.Refusal.{Refusal}
 use Rattle.ring_records.specs.declared.refusal.Refusal.TheVariants as refused
 use Rattle.ring_records.specs.declared.request.Request.{Request}
 use Rattle.ring_records.specs.declared.summary.Summary.{Summary}
-use Rattle.ring_records.specs.Admission.{base_of, newest, used, where_so, IsBaseOf, IsLawful}
+use Rattle.ring_records.specs.Admission.{base_of, newest, used, IsBaseOf}
+use Rattle.ring_records.specs.Lawful.{IsLawful}
 pub use Rattle.ring_records.specs.Admission.{epochs}
 use Rattle.ring_records.specs.Answer.{Answered, Answers}
 use Rattle.ring_records.specs.Known.{after}
-use Rattle.ring_records.specs.Lists.{or_else}
 use Rattle.ring_records.specs.Member.{Member}
 use Rattle.ring_records.specs.States as states
-use Rattle.ring_records.specs.States.{NodeState, is_idle, launched_base, opened, flying_in, answered_by, gained_by}
+use Rattle.ring_records.specs.States.{NodeState, launched_base, opened, flying_in, answered_by, gained_by}
 use Rattle.ring_records.specs.Message.{is_outside}
 use Rattle.ring_records.specs.Snapshot.{snapshot_len}
 use Rattle.gated_journal.specs.Reading.{Reading}
 use Rattle.gated_journal.specs.Batch.{Numbered}
 use Rattle.node_core.specs.Core.{CoreView}
-use Rattle.group_commit.specs.Opening.{opened_core, waits_for_area}
+use Rattle.group_commit.specs.Opening.{opened_core}
 use Rattle.group_commit.specs.Past.{IsPast, shifted}
 use Rattle.group_commit.specs.Ticket.{TicketView, ticket_with}
 
@@ -60,15 +60,6 @@ new_desk member run r = record {
 -- what its node knows once all that it accepted is durable
 abbrev pub known_all : DeskKept → Summary
 known_all desk = after desk.view.member.node desk.opening desk.view.state.inputs
-
--- what the area behind the one in use stands for, where it begins with the summary of all that the node accepted
-abbrev pub next_area : DeskKept → Base
-next_area desk = record {
-  layout = newest;
-  epoch = desk.view.state.base.epoch + 1;
-  inputs = length desk.view.state.inputs;
-  bytes = snapshot_len newest (known_all desk);
-}
 
 -- the core of the node before the first input since
 abbrev pub core_of : Member → Reading → CoreView
@@ -134,12 +125,6 @@ ended own desk = record desk { tickets = remove_entry (nat_eq own) desk.tickets 
 abbrev pub launched : DeskView → DeskView
 launched desk = record desk { state = states.launched desk.state }
 
--- all its inputs fly, as a checkpoint
-abbrev pub launched_all : DeskKept → DeskView
-launched_all desk = record desk.view {
-  state = record desk.view.state { flying = length desk.view.state.inputs; checkpoint = Some (next_area desk) };
-}
-
 -- what flies is durable: a batch, or a checkpoint
 abbrev pub landed : DeskView → DeskView
 landed desk = record desk { state = states.landed desk.state }
@@ -159,21 +144,6 @@ objection desk q =
     else (if nat_le (2 ^ 60) desk.issued then Some refused.Limit
     else None))
 
--- why no batch is launched, before memory is asked for
-abbrev pub launch_objection : DeskView → Option Refusal
-launch_objection desk =
-    if desk.failed then Some refused.Failed
-    else (if is_idle desk.state then None
-    else Some refused.Busy)
-
--- why no checkpoint is launched, before memory is asked for: as for a batch; or the journal wrote all areas that it may;
--- or the snapshot is longer than the capacity
-abbrev pub checkpoint_objection : DeskKept → Option Refusal
-checkpoint_objection desk =
-    or_else (launch_objection desk.view)
-    (or_else (where_so (nat_le epochs (desk.view.state.base.epoch + 1)) refused.Limit)
-    (where_so (nat_lt desk.view.member.capacity (snapshot_len newest (known_all desk))) refused.Full))
-
 -- a checkpoint is worth its calls: more than half of the capacity is taken, the snapshot takes a quarter at most, and the
 -- journal may write one more area
 abbrev pub is_due : DeskKept → Bool
@@ -189,15 +159,6 @@ frees_room desk =
     nat_le desk.view.member.capacity (16 * (used (launched_base desk.view.state) desk.view.state.inputs - snapshot_len newest (known_all desk)))
     && (nat_le (snapshot_len newest (known_all desk)) desk.view.member.capacity
     && nat_lt ((launched_base desk.view.state).epoch + 1) epochs)
-
--- An input waits that the area in use can't hold, or flies into the next one: no batch is launched, but a checkpoint.
-abbrev pub needs_checkpoint : DeskKept → Bool
-needs_checkpoint desk = waits_for_area (launched_base desk.view.state) desk.view.state.inputs
-
--- the journal may write the next area, and its snapshot fits the capacity
-pub record MayRenew (desk : DeskKept) : Type 0 where
-  pub left : (launched_base desk.view.state).epoch + 1 < epochs
-  pub fits : snapshot_len newest (known_all desk) ≤ desk.view.member.capacity
 
 -- ---- replies
 

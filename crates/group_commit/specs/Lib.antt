@@ -3,11 +3,13 @@ pub mod Content
 pub mod Desk
 pub mod Inputs
 pub mod Kept
+pub mod Launching
 pub mod Next
 pub mod Opening
 pub mod Outbox
 pub mod Past
 pub mod Props
+pub mod Replying
 pub mod Since
 pub mod Ticket
 pub mod Vouch

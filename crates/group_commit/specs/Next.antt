@@ -1,24 +1,22 @@
 -- What a desk launches next.
-use Rattle.std.specs.Prelude.{ℕ, ◌≡◌, ◌+◌, ◌-◌, ◌*◌, ◌<◌, ◌≤◌, ◌⊎◌, ◌&&◌, ◌||◌, not, nat_lt, Bool, false, if◌then◌else◌, List, ◌++◌, length, Option, Some, None}
+use Rattle.std.specs.Prelude.{ℕ, ◌≡◌, ◌+◌, ◌-◌, ◌*◌, ◌<◌, ◌≤◌, ◌⊎◌, ◌&&◌, ◌||◌, Bool, List, ◌++◌, length, Option, Some}
 use Rattle.std.specs.Option.{option_map}
 use Rattle.ring_records.specs.declared.base.Base.{Base}
 use Rattle.ring_records.specs.declared.input.Input.{Input}
-use Rattle.ring_records.specs.declared.refusal.Refusal.{Refusal}
-use Rattle.ring_records.specs.declared.refusal.Refusal.TheVariants as refused
 use Rattle.ring_records.specs.declared.summary.Summary.{Summary}
 use Rattle.ring_records.specs.Admission.{costs_of, newest, used}
 use Rattle.ring_records.specs.Known.{after}
 use Rattle.ring_records.specs.Member.{Member}
 use Rattle.ring_records.specs.Snapshot.{IsSound, snapshot_len}
-use Rattle.ring_records.specs.States.{NodeState, IsLawfulState, durable_in, flying_in}
+use Rattle.ring_records.specs.States.{NodeState, durable_in}
+use Rattle.ring_records.specs.Lawful.{IsLawfulState}
 use Rattle.gated_journal.specs.declared.checkpoint.Checkpoint.{Checkpoint}
 use Rattle.gated_journal.specs.declared.work.Work.{Work}
 use Rattle.gated_journal.specs.declared.work.Work.TheVariants as works
-use Rattle.gated_journal.specs.Batch.{Numbered, numbered_with, numbered_by, base_by, shown}
+use Rattle.gated_journal.specs.Batch.{Numbered, numbered_by, base_by, shown}
 use Rattle.gated_journal.specs.Frames.{AreSuited}
-use Rattle.gated_journal.specs.Works.{flown_by, summary_by}
 use Rattle.node_core.specs.Core.{IsNodeOf}
-use Rattle.group_commit.specs.Desk.{DeskKept, epochs, frees_room, is_due, known_all, launch_objection, launched, launched_all, needs_checkpoint}
+use Rattle.group_commit.specs.Desk.{DeskKept, epochs, frees_room, is_due}
 use Rattle.group_commit.specs.Past.{IsPast, shifted}
 
 -- what is durable of a desk: the area in use, and the inputs since its opening
@@ -93,35 +91,8 @@ abbrev pub IsNext : Member → Summary → Durable → Work → Type 0
 IsNext m opening known (works.Batch batch) = IsNextBatch m opening known (shown batch)
 IsNext m opening known (works.Checkpoint made) = IsNextCheckpoint m opening known made
 
--- so may one of the desk's node that has what the desk has durable
-abbrev pub IsFitting : DeskKept → Work → Type 0
-IsFitting desk work = IsNext desk.view.member desk.opening (durable_part desk) work
-
 -- ---- by the desk
 
 -- a checkpoint is to make room: one is due, or is wanted and frees some
 abbrev pub is_to_make_room : Bool → DeskKept → Bool
 is_to_make_room is_wanted desk = is_due desk || is_wanted && frees_room desk
-
--- its next work is a checkpoint: one is needed, or is to make room, and something waits or the desk takes requests
-abbrev pub is_checkpoint_next : Bool → DeskKept → Bool
-is_checkpoint_next is_wanted desk = needs_checkpoint desk || is_to_make_room is_wanted desk && (nat_lt desk.view.state.durable (length desk.view.state.inputs) || not (desk.view.closed || desk.view.failed))
-
--- the desk once it flies
-abbrev pub launched_next : Bool → DeskKept → DeskKept
-launched_next is_wanted desk = record desk { view = if is_checkpoint_next is_wanted desk then launched_all desk else launched desk.view }
-
--- These are all the inputs that wait, with the summary of all; or the first that wait, one at least, where that is not next.
-pub record IsWorkOf (is_wanted : Bool) (old new : DeskKept) (work : Work) : Type 0 where
-  pub summary : summary_by work ≡ (if is_checkpoint_next is_wanted old then Some (known_all old) else None)
-  pub flown : flown_by work ≡ numbered_with old.view.member.node (old.opening.inputs + old.view.state.durable) (flying_in new.view.state) (option_map (snapshot_len newest) (summary_by work))
-  pub some : summary_by work ≡ None → old.view.state.durable < length old.view.state.inputs
-
--- Nothing waits, and no checkpoint is next.
-pub record IsNoWork (is_wanted : Bool) (desk : DeskKept) : Type 0 where
-  pub all : desk.view.state.durable ≡ length desk.view.state.inputs
-  pub batch : is_checkpoint_next is_wanted desk ≡ false
-
--- why nothing is launched
-abbrev pub IsUnlaunched : DeskKept → Refusal → Type 0
-IsUnlaunched desk why = (launch_objection desk.view ≡ Some why) ⊎ ((launch_objection desk.view ≡ None) × (why ≡ refused.OutOfMemory))

@@ -1,26 +1,17 @@
 -- What a desk knows: by the summary that it was opened with, and by its inputs since. That summary may be that of no history.
-use Rattle.std.specs.Prelude.{ℕ, ◌≡◌, ◌+◌, ◌≤◌, ◌||◌, ◌&&◌, nat_lt, Bool, List, [], length, take, drop, slice_get, Option, Some, None, Result, Ok, Err}
-use Rattle.std.specs.List.{cons_option, list_any}
+use Rattle.std.specs.Prelude.{ℕ, ◌≡◌, ◌+◌, ◌≤◌, ◌||◌, ◌&&◌, nat_lt, Bool, List, [], length, take, drop, slice_get, Some, None}
+use Rattle.std.specs.List.{list_any}
 use Rattle.ring_records.specs.declared.base.Base.{Base}
-use Rattle.ring_records.specs.declared.candidate.Candidate.{Candidate}
 use Rattle.ring_records.specs.declared.input.Input.{Input}
-use Rattle.ring_records.specs.declared.input.Input.TheVariants.{Stand, Take, Acked, Retire}
 use Rattle.ring_records.specs.declared.refusal.Refusal.{Refusal}
 use Rattle.ring_records.specs.declared.refusal.Refusal.TheVariants as refused
-use Rattle.ring_records.specs.declared.reply.Reply.{Reply}
-use Rattle.ring_records.specs.declared.reply.Reply.TheVariants as say
-use Rattle.ring_records.specs.declared.request.Request.{Request}
-use Rattle.ring_records.specs.declared.request.Request.TheVariants as ask
 use Rattle.ring_records.specs.declared.room.Room.{Room}
 use Rattle.ring_records.specs.declared.summary.Summary.{Summary}
 use Rattle.ring_records.specs.Admission.{costs_of, is_retire, newest, room_of, IsAllowed}
-use Rattle.ring_records.specs.Answer.{if_free, unless}
-use Rattle.ring_records.specs.Known.{after, leads_in}
-use Rattle.ring_records.specs.Leader.{IsLatest}
+use Rattle.ring_records.specs.Known.{after}
 use Rattle.ring_records.specs.Lists.{EachAfter}
 use Rattle.ring_records.specs.Member.{Member}
 use Rattle.ring_records.specs.Summary.{summary}
-use Rattle.node_core.specs.Brought.{who_by}
 use Rattle.node_core.specs.Core.{CoreView, Refuses}
 
 -- the core of a node that knows this, for which the area stands
@@ -63,23 +54,3 @@ pub record IsOf (core : CoreView) (base : Base) (h : List Input) : Type 0 where
   pub room : core.room ≡ room_of base h
   pub within : base.inputs ≤ length h
   pub allowed : EachAfter (IsAllowed core.me core.size) [] h
-
--- ---- what a core answers
-
--- to an input, to which the good reply is this: the reply, and the input where it is accepted
-abbrev pub IsWeighed : CoreView → Input → Reply → Reply → Option Input → Type 0
-IsWeighed core x good reply more = (o : Option Refusal) × Refuses core x o × (reply ≡ unless o good) × (cons_option more [] ≡ if_free o x)
-
--- the reply that tells who leads, or why that is not told
-abbrev pub who_reply : Result (Option Candidate) Refusal → Reply
-who_reply (Ok leader) = say.Leader leader
-who_reply (Err refusal) = say.Refused refusal
-
--- to a request: the reply, and the input that it accepts
-abbrev pub Replies : CoreView → Request → Reply → Option Input → Type 0
-Replies core (ask.Stand key bid) reply more = IsWeighed core (Stand key bid) say.Stood reply more
-Replies core (ask.Take msg_no msg) reply more = IsWeighed core (Take msg_no msg) say.Taken reply more
-Replies core (ask.Acked upto) reply more = IsWeighed core (Acked upto) say.Acked reply more
-Replies core (ask.Retire group floor) reply more = IsWeighed core (Retire group floor) say.Retired reply more
-Replies core (ask.Who key) reply more = (reply ≡ who_reply (who_by core.known key)) × (more ≡ None)
-Replies core (ask.Latest group) reply more = (led : Option (ℕ × Candidate)) × IsLatest (leads_in core.known group) led × (reply ≡ say.Latest led) × (more ≡ None)

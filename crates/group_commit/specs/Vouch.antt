@@ -17,7 +17,7 @@ use Rattle.ring_records.specs.Member.{Member}
 use Rattle.node_core.specs.Brought.{who_by}
 use Rattle.node_core.specs.Core.{FreeView}
 use Rattle.ring_records.specs.States.{NodeState}
-use Rattle.group_commit.specs.Opening.{who_reply}
+use Rattle.group_commit.specs.Replying.{who_reply}
 
 -- the reply that says that the input is accepted
 unfoldable pub acceptance : Input → Reply

@@ -2,12 +2,13 @@
 ghost use Rattle.std.specs.Prelude.{◌≡◌, ◌+◌, ◌++◌, ◌≤◌, ◌⊎◌, ◌||◌, List, [], not, true, Some, None, length, drop, MatchOption, IfOk, IfErr, OnOk, OnErr};
 ghost use Rattle.std.specs.List.{cons_option};
 ghost use Rattle.ring_records.specs.declared.input.Input.{Input};
-ghost use Rattle.ring_records.specs.Admission.{IsLawful};
+ghost use Rattle.ring_records.specs.Lawful.{IsLawful};
 ghost use Rattle.ring_records.specs.Answer.{Answered};
 ghost use Rattle.ring_records.specs.Member.{member};
 ghost use Rattle.ring_records.specs.Release.{window};
 ghost use Rattle.ring_records.specs.Snapshot.{IsSound};
-ghost use Rattle.ring_records.specs.States.{IsNodeState, IsLawfulState, launched_base, durable_in};
+ghost use Rattle.ring_records.specs.States.{launched_base, durable_in};
+ghost use Rattle.ring_records.specs.Lawful.{IsNodeState, IsLawfulState};
 
 use crate::desk::parts::{accept, replay};
 use crate::inputs::Inputs;
@@ -87,7 +88,7 @@ impl Desk {
     ghost use Rattle.group_commit.specs.Desk.{DeskKept, new_desk, core_of, seen, ended, objection, IsSubmitted, IsAnswer, IsHere, IsSealed};
     ghost use Rattle.group_commit.specs.Opening.{IsKnownLawful, IsUnlawful};
     ghost use Rattle.group_commit.specs.Past.{IsPast};
-    ghost use Rattle.gated_journal.specs.Reading.{reading_of_opening};
+    ghost use Rattle.gated_journal.specs.Opened.{reading_of_opening};
     ghost use Rattle.group_commit.specs.Ticket.{shown, answered_with};
 
     /// The desk of a node whose journal holds this: the inputs that its summary stands for, and those since, all of them

@@ -26,7 +26,7 @@ pub struct Landed {
 }
 
 impl Landed {
-    ghost use Rattle.gated_journal.specs.Works.{syncs_of};
+    ghost use Rattle.gated_journal.specs.WorkTaken.{syncs_of};
     ghost use Rattle.group_commit.specs.Outbox.{IsReady};
 
     /// How many syncs of the device it took.

@@ -2,14 +2,15 @@
 ghost use Rattle.std.specs.Prelude.{◌≡◌, ℕ, List, [], ◌++◌, length, take};
 ghost use Rattle.ring_records.specs.declared.input.Input.{Input};
 ghost use Rattle.ring_records.specs.declared.refusal.Refusal.{Refusal};
-ghost use Rattle.ring_records.specs.Admission.{IsLawful};
+ghost use Rattle.ring_records.specs.Lawful.{IsLawful};
 ghost use Rattle.ring_records.specs.Known.{after};
 ghost use Rattle.ring_records.specs.Member.{Member};
 ghost use Rattle.ring_records.specs.States as states;
-ghost use Rattle.ring_records.specs.States.{IsLawfulState};
+ghost use Rattle.ring_records.specs.Lawful.{IsLawfulState};
 ghost use Rattle.ring_records.specs.Summary.{empty};
 ghost use Rattle.gated_journal.specs.Reading.{Reading};
-ghost use Rattle.group_commit.specs.Desk.{DeskKept, core_of, first_base, seen, launched, launched_all, landed};
+ghost use Rattle.group_commit.specs.Desk.{DeskKept, core_of, first_base, seen, launched, landed};
+ghost use Rattle.group_commit.specs.Launching.{launched_all};
 ghost use Rattle.group_commit.specs.Opening.{IsUnlawful};
 ghost use Rattle.group_commit.specs.Past.{IsPast, moved};
 

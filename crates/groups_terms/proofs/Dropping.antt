@@ -59,14 +59,6 @@ inserted m n k b put = map.same_map keys_total keys_exact _ _ (λ q.
     ∙ (ap (λ c. cond c (Some b) (get key_cmp m q)) ((eq_by_cmp_equiv keys_total).symm k q)
     ∙ (ap (cond (is_eq (key_cmp q k)) (Some b)) (get_is m q) ∙ sym (map.get-insert keys_total (kept_in m) k b q)))))
 
--- nothing was there
-pub nothing_removed : (m : BallotMap) (k : Key) → map.get m k ≡ None → m ≡ map.remove m k
-nothing_removed m k none = map.same_map keys_total keys_exact _ _ (λ q. at q (is_eq (key_cmp q k)) refl ∙ sym (map.get-remove keys_total m k q))
-  where
-    at : (q : Key) (b : Bool) → is_eq (key_cmp q k) ≡ b → map.get m q ≡ cond b None (map.get m q)
-    at q true e = ap (map.get m) (is_key-true q k (sym (is_eq-key_cmp q k) ∙ e)) ∙ none
-    at q false e = refl
-
 -- ---- terms
 
 abbrev pub HasTerm : Key → Type 0

@@ -1,16 +1,15 @@
 -- The floors that are kept are those that are told.
-use Rattle.std.proofs.Common.{ℕ, ◌≡◌, ◌+◌, ◌<◌, cond, List, [], ◌∷◌, ◌++◌, map as list_map, length, drop, get_or, Option, Some, Less, refl, sym, ap, ◌∙◌, append-nil, ltb}
+use Rattle.std.proofs.Common.{ℕ, ◌≡◌, ◌+◌, ◌<◌, cond, List, [], ◌∷◌, ◌++◌, map as list_map, length, Some, Less, refl, sym, ap, ◌∙◌, append-nil}
 use Rattle.std.specs.FinMap as fin
 use Rattle.std.specs.FinMap.{find}
 use Rattle.std.specs.List.{AllByRecursion}
 use Rattle.std.specs.List.Sorted.{IsStrictlySortedBy}
 use Rattle.std.specs.Map.{lookup}
 use Rattle.std.specs.Ordering.{is_eq}
-use Rattle.std.specs.Prelude.{unwrap_or}
 use Rattle.std.specs.Cmp.{eq_by_cmp_equiv}
-use Rattle.std.proofs.lemmas.List.{drop_more, length-map}
+use Rattle.std.proofs.lemmas.List.{length-map}
 use Rattle.ring_records.specs.declared.key.Key.{Key}
-use Rattle.ring_records.specs.Floors.{by_group, under_group, floored, as_key, is_below_floor}
+use Rattle.ring_records.specs.Floors.{by_group, under_group, floored, as_key}
 use Rattle.ring_records.specs.KeyOrder.{group_cmp}
 use Rattle.ring_records.proofs.FloorsInOrder.{groups_total, groups_exact, keys-floored, len-floors}
 
@@ -28,9 +27,6 @@ pub insert-floor : (old new : List (List ℕ × ℕ)) (group : List ℕ) (floor 
 insert-floor old new group floor put = fin.same_map groups_total groups_exact _ _ (λ other.
     get-floor new other ∙ (put other ∙ ((λ i. cond ((eq_by_cmp_equiv groups_total).symm group other i) (Some floor) (sym (get-floor old other) i))
     ∙ sym (fin.get-insert groups_total (fin.from_entries old) group floor other))))
-
-pub below_some : (floors : fin.FinMap group_cmp ℕ) (key : Key) (floor : ℕ) → Some floor ≡ fin.get floors key.group → is_below_floor floors key ≡ ltb key.term floor
-below_some floors key floor e = ap (λ (o : Option ℕ). ltb key.term (unwrap_or o 0)) (sym e)
 
 -- ---- the list of those that are kept
 
@@ -59,12 +55,3 @@ len-floored es sorted =
 -- a loop over the entries, at its end
 pub all_listed : (items : List Key) (left es : List (List ℕ × ℕ)) → items ++ list_map as_key left ≡ list_map as_key es → left ≡ [] → items ≡ list_map as_key es
 all_listed items left es e none = sym (ap (λ l. items ++ list_map as_key l) none ∙ append-nil items) ∙ e
-
--- one floor more of the list is put
-pub one_more_floor : (items : List Key) (i j : ℕ) (f d : Key) (old new : fin.FinMap group_cmp ℕ) → i < length items → j ≡ i + 1 → f ≡ get_or items i d → old ≡ floored (drop j items)
-    → new ≡ fin.insert old f.group f.term → new ≡ floored (drop i items)
-one_more_floor items i j f d old new inside next is before put =
-    put ∙ ((λ k. fin.insert ((before ∙ ap (λ n. floored (drop n items)) next) k) (is k).group (is k).term) ∙ sym (ap floored (from_here items i d inside)))
-  where
-    from_here : (items : List Key) (i : ℕ) (d : Key) → i < length items → drop i items ≡ get_or items i d ∷ drop (i + 1) items
-    from_here items i d inside = drop_more items i d inside

@@ -6,7 +6,8 @@ use Rattle.ring_records.specs.declared.candidate.Candidate.{Candidate}
 use Rattle.ring_records.specs.declared.key.Key.{Key}
 use Rattle.ring_records.specs.declared.key_state.KeyState.{KeyState}
 use Rattle.ring_records.specs.declared.msg.Msg.{Msg}
-use Rattle.ring_records.specs.KeyOrder.{key_cmp, group_cmp, coded_key, coded_group}
+use Rattle.ring_records.specs.KeyOrder.{key_cmp, group_cmp}
+use Rattle.ring_records.specs.Coded.{coded_key, coded_group}
 use Rattle.ring_records.specs.KeyStates.{keyed}
 use Rattle.ring_records.specs.Known.{passed, shown}
 use Rattle.ring_records.specs.Leader.{IsLatest}

@@ -24,7 +24,7 @@ use Rattle.ring_records.proofs.Growth.{sent-kept}
 use Rattle.ring_records.proofs.History.{taken-push}
 use Rattle.ring_records.proofs.Lists.{along, none≢some, Contains-option_cases, Contains-slice_get}
 use Rattle.ring_records.proofs.OneKey.{none_in}
-use Rattle.history_laws.specs.Linked.{AreHanded, AreLinked, IsLeaderIn, IsReplied}
+use Rattle.history_laws.specs.Linked.{AreHanded, AreLinked, IsLeaderIn}
 
 -- ---- a message that was taken stands in a Take, and so it was handed over
 
@@ -75,6 +75,3 @@ replied_in n capacity history i base begun rest key c a low high front answers s
     shown_in n history i upto (drop answers.before begun ++ rest) key c low high
     (sym (append_assoc upto (drop answers.before begun) rest) ∙ (ap (λ (l : List Input). l ++ rest) (take-append-drop answers.before begun) ∙ front))
     (tells (retired upto key) (leader i upto key) c (sym (ap (λ (x : Answer). x.reply) answers.same) ∙ says))
-
-pub replied_leads : (n capacity : ℕ) (history : ℕ → List Input) (key : Key) (c : Candidate) → IsReplied n capacity history key c → IsLeaderIn n history key c
-replied_leads n capacity history key c r = replied_in n capacity history r.node r.base r.begun r.rest key c r.answer r.low r.high r.front r.answers r.says

@@ -2,17 +2,14 @@
 -- node i, from 1 on.
 use Rattle.std.specs.Prelude.{ℕ, ◌≡◌, ◌≤◌, List, [], ◌++◌, Some}
 use Rattle.std.specs.List.{Contains}
-use Rattle.ring_records.specs.declared.base.Base.{Base}
 use Rattle.ring_records.specs.declared.candidate.Candidate.{Candidate}
 use Rattle.ring_records.specs.declared.input.Input.{Input}
 use Rattle.ring_records.specs.declared.input.Input.TheVariants.{Take}
 use Rattle.ring_records.specs.declared.key.Key.{Key}
 use Rattle.ring_records.specs.declared.msg.Msg.{Msg}
 use Rattle.ring_records.specs.declared.packet.Packet.TheVariants.{Carry}
-use Rattle.ring_records.specs.declared.reply.Reply.TheVariants as say
-use Rattle.ring_records.specs.declared.request.Request.TheVariants as ask
 use Rattle.ring_records.specs.Admission.{IsAllowed}
-use Rattle.ring_records.specs.Answer.{Answer, Answers, PacketRests}
+use Rattle.ring_records.specs.Answer.{PacketRests}
 use Rattle.ring_records.specs.Emission.{sent}
 use Rattle.ring_records.specs.History.{taken}
 use Rattle.ring_records.specs.Leader.{leader}
@@ -44,16 +41,3 @@ pub record AreHanded (n : ℕ) (history : ℕ → List Input) : Type 0 where
   pub named : (i : ℕ) (m : Msg) → 1 ≤ i → i ≤ n → Contains (taken (history i)) m → 1 ≤ (candidate_of m).node
   pub handed : (i msg_no : ℕ) (m : Msg) → 1 ≤ i → i ≤ n → Contains (history i) (Take msg_no m)
       → (begun : List Input) × (rest : List Input) × (begun ++ rest ≡ history (before n i)) × PacketRests (before n i) begun (Carry msg_no m)
-
--- some node of the ring replied that c leads for the key, by a beginning of its history
-pub record IsReplied (n capacity : ℕ) (history : ℕ → List Input) (key : Key) (c : Candidate) : Type 0 where
-  pub node : ℕ
-  pub low : 1 ≤ node
-  pub high : node ≤ n
-  pub base : Base
-  pub begun : List Input
-  pub rest : List Input
-  pub front : begun ++ rest ≡ history node
-  pub answer : Answer
-  pub answers : Answers node n capacity base begun (ask.Who key) answer
-  pub says : answer.reply ≡ say.Leader (Some c)

@@ -19,7 +19,7 @@ ghost use Rattle.ring_records.specs.Answer.{Answer, Answers};
 ghost use Rattle.ring_records.specs.Leader.{leader};
 ghost use Rattle.ring_records.specs.Order.{is_less};
 ghost use Rattle.ring_records.specs.Ring.{IsLegal, part};
-ghost use Rattle.history_laws.specs.Linked.{AreHanded, AreLinked, IsLeaderIn, IsReplied};
+ghost use Rattle.history_laws.specs.Linked.{AreHanded, AreLinked, IsLeaderIn};
 
 /// Of lawful histories in which each message that was taken was sent by the node before, all leaders that are known for a
 /// key by beginnings of them are one candidate. It stands in its node's history, and every other candidate that stands
@@ -57,15 +57,4 @@ pub fn answers_of_beginnings()
         → Answers me n capacity base h q a → Answers me n capacity base (h ++ more) q a }
     ensures shorter { (me n capacity k : ℕ) (base : Base) (h : List Input) (q : Request) (a : Answer)
         → Answers me n capacity base h q a → a.number ≤ k → Answers me n capacity base (take k h) q a }
-{}
-
-/// Where each message came in a released packet, all leaders that any nodes ever named for a key in their replies are
-/// one. It stands in its node's history, and every other candidate that stands for the key in some node's history is less.
-pub fn one_leader()
-    ensures same { (n capacity : ℕ) (history : ℕ → List Input) (key : Key) (c d : Candidate)
-        → AreHanded n history → IsReplied n capacity history key c → IsReplied n capacity history key d → c ≡ d }
-    ensures stands { (n capacity : ℕ) (history : ℕ → List Input) (key : Key) (c : Candidate)
-        → AreHanded n history → IsReplied n capacity history key c → Contains (history c.node) (Stand key c.bid) }
-    ensures greatest { (n capacity : ℕ) (history : ℕ → List Input) (key : Key) (c d : Candidate) → AreHanded n history → IsReplied n capacity history key c
-        → 1 ≤ d.node → d.node ≤ n → Contains (history d.node) (Stand key d.bid) → d ≢ c → IsTrue (is_less d c) }
 {}

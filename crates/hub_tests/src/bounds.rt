@@ -1,5 +1,6 @@
 // Hubs at their bounds: places, tickets, receipts and shares that are not what they wait for.
-ghost use Rattle.std.specs.Prelude.{◌≡◌, ◌+◌, ◌≤◌, length, None};
+ghost use Rattle.std.specs.Prelude.{◌≡◌, ◌+◌, ◌≤◌, length, None, false};
+ghost use Rattle.commit_hub.specs.Desks.{is_over};
 ghost use Rattle.commit_hub.specs.Pages.{ForAccepted, ForTie};
 
 use crate::calls::{asks, forfeits, keeps, settled};
@@ -7,7 +8,7 @@ use crate::ends::settles_some;
 use crate::rows::{No, desk_behind, new_desk};
 use crate::station::Step::*;
 use crate::station::{Left, Station, Step};
-use commit_hub::{Blanks, Hub, Look, Node};
+use commit_hub::{Blanks, Hub, Look, NodeLedger};
 use group_commit::{Desk, Ticket};
 use ring_records::{Refusal, Shown};
 use std::alloc::AllocGlobal;
@@ -40,7 +41,7 @@ enum Case {
 }
 
 /// So many places are taken, and there is no other. All of their shares settle the hub.
-fn enters<A: Node, R: Wait + Abort + AllocGlobal>(rt: &R, hub: Hub<A>, count: u32) {
+fn enters<A: NodeLedger, R: Wait + Abort + AllocGlobal>(rt: &R, hub: Hub<A>, count: u32) {
     let mut shares = Vec::with_capacity(rt.alloc(), count as usize).expect(rt, "ample memory");
     for _ in 0..count {
         let share = hub.enter(rt).expect(rt, "a place");
@@ -56,13 +57,13 @@ fn enters<A: Node, R: Wait + Abort + AllocGlobal>(rt: &R, hub: Hub<A>, count: u3
 }
 
 /// A ticket of the hub.
-fn gives<A: Node, R: Wait + Abort>(rt: &R, hub: &Hub<A>) -> Ticket {
+fn gives<A: NodeLedger, R: Wait + Abort>(rt: &R, hub: &Hub<A>) -> Ticket {
     let mut share = hub.enter(rt).expect(rt, "a place");
     asks(rt, hub, &mut share, STAND)
 }
 
 /// A ticket of another hub is refused, and comes back.
-fn comes_back<A: Node, R: Wait + Abort>(rt: &R, hub: &Hub<A>, ticket: Ticket) -> Ticket {
+fn comes_back<A: NodeLedger, R: Wait + Abort>(rt: &R, hub: &Hub<A>, ticket: Ticket) -> Ticket {
     let question = ticket.question();
     match hub.redeem_wait(rt, ticket) {
         Ok(_) => panic!(rt; "redeemed"),
@@ -75,7 +76,7 @@ fn comes_back<A: Node, R: Wait + Abort>(rt: &R, hub: &Hub<A>, ticket: Ticket) ->
 }
 
 /// Does with a hub what the case says. What is given is a ticket of it.
-fn on_hub<A: Node, R: Wait + Abort + AllocGlobal>(
+fn on_hub<A: NodeLedger, R: Wait + Abort + AllocGlobal>(
     rt: &R,
     desk: Desk,
     blanks: Blanks,
@@ -86,6 +87,8 @@ fn on_hub<A: Node, R: Wait + Abort + AllocGlobal>(
     requires ring { A.member.n ≡ 3 }
     requires opening { desk.opening ≡ A.opening }
     requires none { desk.view.state.checkpoint ≡ None }
+    requires idle { desk.view.state.flying ≡ desk.view.state.durable }
+    requires open { is_over desk ≡ false }
     requires opened { desk.opening.inputs + length desk.view.state.inputs ≡ A.opened }
     requires accepted { ForAccepted blanks A.name A.parts }
     requires tied { ForTie blanks A.tied }
@@ -107,7 +110,7 @@ fn on_hub<A: Node, R: Wait + Abort + AllocGlobal>(
 }
 
 /// The same, where nothing is launched.
-fn on_untied<A: Node, R: Wait + Abort + AllocGlobal>(
+fn on_untied<A: NodeLedger, R: Wait + Abort + AllocGlobal>(
     rt: &R,
     hub: Hub<A>,
     case: Case,

@@ -5,7 +5,7 @@ ghost use Rattle.gated_journal.specs.Batch.{base_by};
 ghost use Rattle.gated_journal.specs.Journal.{member_of};
 
 use crate::rows::{No, broken_journal, journal_of, node, refused, request};
-use commit_hub::{Hub, Node, Share, Tie, Work};
+use commit_hub::{Hub, NodeLedger, Share, Tie, Work};
 use disk_model::{Device, MemDevice};
 use gated_journal::{Batch, Checkpoint, Journal, Receipt, Spoiled};
 use group_commit::{Desk, Ticket};
@@ -15,7 +15,7 @@ use std::process::Abort;
 use std::sync::Wait;
 use test_rows::{Ask, Op, Say};
 
-pub fn asks<A: Node, R: Wait + Abort>(
+pub fn asks<A: NodeLedger, R: Wait + Abort>(
     rt: &R,
     hub: &Hub<A>,
     share: &mut Share<A>,
@@ -39,13 +39,13 @@ pub fn keeps_ticket(rt: &impl Abort, tickets: &mut Vec<Ticket>, ticket: Ticket) 
 }
 
 /// The request gets a ticket, which is refused and ends.
-pub fn takes<A: Node, R: Wait + Abort>(rt: &R, hub: &Hub<A>, share: &mut Share<A>, ask: Ask) {
+pub fn takes<A: NodeLedger, R: Wait + Abort>(rt: &R, hub: &Hub<A>, share: &mut Share<A>, ask: Ask) {
     let ticket = asks(rt, hub, share, ask);
     forfeits(rt, hub, ticket);
 }
 
 /// The request is refused for this cause.
-pub fn refuses<A: Node, R: Wait + Abort>(
+pub fn refuses<A: NodeLedger, R: Wait + Abort>(
     rt: &R,
     hub: &Hub<A>,
     share: &mut Share<A>,
@@ -58,7 +58,7 @@ pub fn refuses<A: Node, R: Wait + Abort>(
     }
 }
 
-pub fn redeems<A: Node, R: Wait + Abort>(rt: &R, hub: &Hub<A>, ticket: Ticket) {
+pub fn redeems<A: NodeLedger, R: Wait + Abort>(rt: &R, hub: &Hub<A>, ticket: Ticket) {
     match hub.redeem_wait(rt, ticket) {
         Ok((reply, stub, _begun)) => assert!(rt; stub.reply() == reply),
         Err((_ticket, refusal)) => refused(rt, refusal),
@@ -66,7 +66,7 @@ pub fn redeems<A: Node, R: Wait + Abort>(rt: &R, hub: &Hub<A>, ticket: Ticket) {
 }
 
 /// The ticket is redeemed with this reply.
-pub fn says<A: Node, R: Wait + Abort>(rt: &R, hub: &Hub<A>, ticket: Ticket, say: Say) {
+pub fn says<A: NodeLedger, R: Wait + Abort>(rt: &R, hub: &Hub<A>, ticket: Ticket, say: Say) {
     let want = say.reply().expect(rt, "a reply");
     match hub.redeem_wait(rt, ticket) {
         Ok((reply, stub, _begun)) => assert!(rt; reply == want && stub.reply() == want),
@@ -75,7 +75,7 @@ pub fn says<A: Node, R: Wait + Abort>(rt: &R, hub: &Hub<A>, ticket: Ticket, say:
 }
 
 /// The hub has failed: the ticket is refused, and forfeited.
-pub fn fails<A: Node, R: Wait + Abort>(rt: &R, hub: &Hub<A>, ticket: Ticket) {
+pub fn fails<A: NodeLedger, R: Wait + Abort>(rt: &R, hub: &Hub<A>, ticket: Ticket) {
     match hub.redeem_wait(rt, ticket) {
         Ok(_) => panic!(rt; "redeemed"),
         Err((ticket, refusal)) => has_failed(rt, hub, ticket, refusal),
@@ -83,18 +83,23 @@ pub fn fails<A: Node, R: Wait + Abort>(rt: &R, hub: &Hub<A>, ticket: Ticket) {
 }
 
 /// The ticket that was refused since the hub has failed is forfeited.
-fn has_failed<A: Node, R: Wait + Abort>(rt: &R, hub: &Hub<A>, ticket: Ticket, refusal: Refusal) {
+fn has_failed<A: NodeLedger, R: Wait + Abort>(
+    rt: &R,
+    hub: &Hub<A>,
+    ticket: Ticket,
+    refusal: Refusal,
+) {
     assert!(rt; refusal == Refusal::Failed);
     assert!(rt; hub.forfeit(rt, ticket).is_ok());
 }
 
 /// The ticket is no open one of the hub, or the hub takes requests.
-pub fn forfeits<A: Node, R: Wait + Abort>(rt: &R, hub: &Hub<A>, ticket: Ticket) {
+pub fn forfeits<A: NodeLedger, R: Wait + Abort>(rt: &R, hub: &Hub<A>, ticket: Ticket) {
     assert!(rt; hub.forfeit(rt, ticket) == Err(Refusal::Foreign));
 }
 
 /// Nothing is launched, for this cause; where there is none, since nothing waits.
-pub fn launches_none<A: Node, R: Wait + Abort>(
+pub fn launches_none<A: NodeLedger, R: Wait + Abort>(
     rt: &R,
     hub: &Hub<A>,
     tie: &mut Tie<A>,
@@ -115,7 +120,7 @@ fn is_no(rt: &impl Abort, refusal: Refusal, no: Option<No>) {
     }
 }
 
-pub fn launches<A: Node, R: Wait + Abort>(rt: &R, hub: &Hub<A>, tie: &mut Tie<A>) -> Batch {
+pub fn launches<A: NodeLedger, R: Wait + Abort>(rt: &R, hub: &Hub<A>, tie: &mut Tie<A>) -> Batch {
     match hub.launch(rt, tie) {
         Ok(Some(Work::Batch(batch))) => batch,
         Ok(Some(Work::Checkpoint(_made))) => panic!(rt; "a checkpoint"),
@@ -150,7 +155,7 @@ pub fn commits<R: Abort>(rt: &R, journal: &mut Journal<MemDevice>, batch: Batch)
 }
 
 /// So many inputs land.
-pub fn lands<A: Node, R: Wait + Abort>(
+pub fn lands<A: NodeLedger, R: Wait + Abort>(
     rt: &R,
     hub: &Hub<A>,
     tie: &mut Tie<A>,
@@ -167,7 +172,11 @@ pub fn lands<A: Node, R: Wait + Abort>(
 }
 
 /// The checkpoint that is due or needed. The node is one of a ring of 3.
-pub fn launches_all<A: Node, R: Wait + Abort>(rt: &R, hub: &Hub<A>, tie: &mut Tie<A>) -> Checkpoint
+pub fn launches_all<A: NodeLedger, R: Wait + Abort>(
+    rt: &R,
+    hub: &Hub<A>,
+    tie: &mut Tie<A>,
+) -> Checkpoint
     requires ring { A.member.n ≡ 3 }
     ensures { IsSound 3 (base_by result) }
 {
@@ -199,7 +208,7 @@ pub fn replaces<R: Abort>(rt: &R, journal: &mut Journal<MemDevice>, made: Checkp
     }
 }
 
-pub fn keeps<A: Node, R: Abort>(rt: &R, shares: &mut Vec<Share<A>>, share: Share<A>) {
+pub fn keeps<A: NodeLedger, R: Abort>(rt: &R, shares: &mut Vec<Share<A>>, share: Share<A>) {
     match shares.push(share) {
         Ok(()) => {}
         Err(_share) => panic!(rt; "ample memory"),
@@ -207,7 +216,7 @@ pub fn keeps<A: Node, R: Abort>(rt: &R, shares: &mut Vec<Share<A>>, share: Share
 }
 
 /// The desk of the hub, which these shares settle.
-pub fn settled<A: Node, R: Abort>(rt: &R, hub: Hub<A>, shares: Vec<Share<A>>) -> Desk {
+pub fn settled<A: NodeLedger, R: Abort>(rt: &R, hub: Hub<A>, shares: Vec<Share<A>>) -> Desk {
     match hub.settle(shares) {
         Ok(desk) => desk,
         Err(_) => panic!(rt; "not settled"),
@@ -234,7 +243,7 @@ pub fn spoils<R: Abort + AllocGlobal>(rt: &R, batch: Batch) -> Spoiled {
 }
 
 /// The receipt of another journal's batch is refused, and comes back.
-pub fn lands_another<A: Node, R: Wait + Abort + AllocGlobal>(
+pub fn lands_another<A: NodeLedger, R: Wait + Abort + AllocGlobal>(
     rt: &R,
     hub: &Hub<A>,
     tie: &mut Tie<A>,
@@ -251,7 +260,7 @@ pub fn lands_another<A: Node, R: Wait + Abort + AllocGlobal>(
 }
 
 /// The spoiled batch of another journal is refused, and comes back.
-pub fn spoils_another<A: Node, R: Wait + Abort + AllocGlobal>(
+pub fn spoils_another<A: NodeLedger, R: Wait + Abort + AllocGlobal>(
     rt: &R,
     hub: &Hub<A>,
     tie: &mut Tie<A>,

@@ -2,7 +2,7 @@
 ghost use Rattle.std.specs.Prelude.{◌≤◌};
 
 use crate::calls::*;
-use commit_hub::{Hub, Node, Share};
+use commit_hub::{Hub, NodeLedger, Share};
 use ring_records::Refusal;
 use std::alloc::AllocGlobal;
 use std::process::Abort;
@@ -10,7 +10,7 @@ use std::sync::Wait;
 use test_rows::Ask;
 
 /// A share of which so many Stands are accepted, for terms of this group.
-fn holder<A: Node, R: Wait + Abort>(
+fn holder<A: NodeLedger, R: Wait + Abort>(
     rt: &R,
     hub: &Hub<A>,
     group: &'static str,
@@ -28,7 +28,7 @@ fn holder<A: Node, R: Wait + Abort>(
 }
 
 /// Four shares of a hub count 0, 1, 0 and 2 inputs: those that the mask names, and the others.
-fn holders<A: Node, R: Wait + Abort + AllocGlobal>(
+fn holders<A: NodeLedger, R: Wait + Abort + AllocGlobal>(
     rt: &R,
     hub: &Hub<A>,
     mask: u8,
@@ -53,7 +53,7 @@ fn holders<A: Node, R: Wait + Abort + AllocGlobal>(
 
 /// The hub is settled with those of its four shares that this mask names exactly where both that count some are among
 /// them, and else with the others too.
-pub fn settles_some<A: Node, R: Wait + Abort + AllocGlobal>(rt: &R, hub: Hub<A>, mask: u8) {
+pub fn settles_some<A: NodeLedger, R: Wait + Abort + AllocGlobal>(rt: &R, hub: Hub<A>, mask: u8) {
     let (named, others) = holders(rt, &hub, mask);
     match hub.settle(named) {
         Ok(desk) => {
@@ -68,7 +68,7 @@ pub fn settles_some<A: Node, R: Wait + Abort + AllocGlobal>(rt: &R, hub: Hub<A>,
 }
 
 /// All four shares, of which three inputs were accepted, settle the hub.
-fn settles_all<A: Node, R: Abort>(
+fn settles_all<A: NodeLedger, R: Abort>(
     rt: &R,
     hub: Hub<A>,
     shares: Vec<Share<A>>,

@@ -1,7 +1,8 @@
 // What hubs are given and give. All numbers and names of rows are in their ranges.
-ghost use Rattle.std.specs.Prelude.{◌≡◌, None};
+ghost use Rattle.std.specs.Prelude.{◌≡◌, false, None};
 ghost use Rattle.ring_records.specs.Snapshot.{IsSound};
 ghost use Rattle.gated_journal.specs.Journal.{member_of};
+ghost use Rattle.commit_hub.specs.Desks.{is_over};
 
 use disk_model::{FuseDevice, MemDevice};
 use gated_journal::{Journal, Opening, device_size};
@@ -54,6 +55,8 @@ fn opening<R: AllocGlobal>(rt: &R) -> Opening
 /// The desk of this node of 3, capacity 4,096, at this opening, with no inputs.
 pub fn new_desk<R: Abort + AllocGlobal>(rt: &R, number: u8, run: u64) -> Desk
     ensures none { result.view.state.checkpoint ≡ None }
+    ensures idle { result.view.state.flying ≡ result.view.state.durable }
+    ensures open { is_over result ≡ false }
     ensures ring { result.view.member.n ≡ 3 }
 {
     Desk::open(rt.alloc(), node(rt, number), 3, 4096, run, opening(rt)).expect(rt, "no inputs")
@@ -81,6 +84,8 @@ fn opening_behind<R: Abort + AllocGlobal>(rt: &R) -> Opening
 /// The desk of node 1 of 3, capacity 4,096, whose opening summarises a Stand.
 pub fn desk_behind<R: Abort + AllocGlobal>(rt: &R) -> Desk
     ensures none { result.view.state.checkpoint ≡ None }
+    ensures idle { result.view.state.flying ≡ result.view.state.durable }
+    ensures open { is_over result ≡ false }
     ensures ring { result.view.member.n ≡ 3 }
 {
     Desk::open(rt.alloc(), node(rt, 1), 3, 4096, 0, opening_behind(rt)).expect(rt, "no inputs")

@@ -4,7 +4,7 @@ ghost use Rattle.gated_journal.specs.Journal.{member_of};
 
 use crate::calls::*;
 use crate::rows::{No, journal_of, refused};
-use commit_hub::{Hub, Look, Node, Share, Tie};
+use commit_hub::{Hub, Look, NodeLedger, Share, Tie};
 use disk_model::MemDevice;
 use gated_journal::{Batch, Journal};
 use group_commit::{Desk, Ticket};
@@ -72,7 +72,7 @@ fn has(rt: &impl Abort, desk: &Desk, left: Left) {
 }
 
 /// A hub, its tie, its journal and a share of it, the tickets that are open, newest last, and the batch that flies.
-pub struct Station<A: Node> {
+pub struct Station<A: NodeLedger> {
     hub: Hub<A>,
     tie: Tie<A>,
     journal: Journal<MemDevice>,
@@ -82,7 +82,7 @@ pub struct Station<A: Node> {
     ghost ring: { (member_of journal).n ≡ 3 },
 }
 
-impl<A: Node> Station<A> {
+impl<A: NodeLedger> Station<A> {
     /// With a new journal.
     pub fn new<R: Wait + Abort + AllocGlobal>(rt: &R, hub: Hub<A>, tie: Tie<A>) -> Station<A> {
         let share = hub.enter(rt).expect(rt, "a place");
@@ -154,7 +154,7 @@ impl<A: Node> Station<A> {
             Step::Spoils => self.spoils(rt),
             Step::CommitsAnother => self.commits_another(rt),
             Step::Closes => self.hub.close(rt),
-            Step::Abandons => self.hub.abandon(rt),
+            Step::Abandons => self.hub.abandon(rt, &mut self.tie),
             Step::IsOpen(is_open) => assert!(rt; self.hub.look(rt).is_open == is_open),
             Step::Counts(count) => assert!(rt; self.share.count() == count),
             Step::Uses(bytes) => assert!(rt; self.hub.look(rt).used == bytes),

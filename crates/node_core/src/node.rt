@@ -2,18 +2,19 @@
 ghost use Rattle.std.specs.Prelude.{◌≡◌, ◌+◌, ◌<◌, ◌≤◌, ◌^◌, ℕ, List, [], ◌∷◌, ◌++◌, length, drop, Bool, false, nat_lt, ◌&&◌, None, IfOk, OnOk, OnErr};
 ghost use Rattle.std.specs.FinMap as map;
 ghost use Rattle.std.specs.Result.{result_err};
+ghost use Rattle.ring_records.specs.declared.base.Base.{Base};
 ghost use Rattle.ring_records.specs.declared.input.Input.{Input};
-ghost use Rattle.ring_records.specs.Admission.{must_renew, newest, no_area, no_room, snapshot_len};
+ghost use Rattle.ring_records.specs.Admission.{base_of, fresh, must_renew, newest, no_area, no_room, refusal, snapshot_len, used};
 ghost use Rattle.ring_records.specs.declared.limits.TheConstants.{INPUT_BYTES};
 ghost use Rattle.ring_records.specs.Emission.{sent, carry};
 ghost use Rattle.ring_records.specs.History.{taken, credit, stands};
 ghost use Rattle.ring_records.specs.Known.{Objects, stepped, leads_in};
-ghost use Rattle.ring_records.specs.Leader.{IsLatest, latest, told};
-ghost use Rattle.ring_records.specs.Member.{used_by, refusal_by};
+ghost use Rattle.ring_records.specs.Leader.{IsLatest, latest};
+ghost use Rattle.ring_records.specs.Decided.{told};
 ghost use Rattle.ring_records.specs.Snapshot.{IsSound};
 ghost use Rattle.ring_records.specs.Summary as summed;
 ghost use Rattle.node_core.specs.Brought.{brought, who_after, who_by};
-ghost use Rattle.node_core.specs.Core.{CoreStandsFor, IsNodeOf, Refuses, member_of, taking};
+ghost use Rattle.node_core.specs.Core.{CoreStandsFor, IsNodeOf, Refuses, taking};
 
 use crate::effects::Effects;
 use crate::free::FreeCore;
@@ -56,7 +57,7 @@ impl NodeCore {
         ensures ring { result.size ≡ n }
         ensures capacity { result.capacity ≡ capacity }
         ensures value { (result.known ≡ summed.empty) × (result.room ≡ record { layout = newest; epoch = 1; taken = 42; waits = false }) }
-        ensures empty { CoreStandsFor result [] }
+        ensures empty { CoreStandsFor result fresh [] }
     {
         NodeCore {
             core: FreeCore::new(alloc, node, n),
@@ -99,7 +100,7 @@ impl NodeCore {
     pub fn summary(&self, alloc: Global) -> Result<Summary, AllocError>
         ensures value { IfOk result (λ given. given ≡ self.now.known) }
         ensures sound { OnOk result (IsNodeOf self.now.size self.now.me → IsSound self.now.size self.now.known) }
-        ensures known { IfOk result (λ given. (h : List Input) → CoreStandsFor self.now h → given ≡ summed.summary self.now.me h) }
+        ensures known { IfOk result (λ given. (base : Base) (h : List Input) → CoreStandsFor self.now base h → given ≡ summed.summary self.now.me h) }
     {
         self.core.summary(alloc)
     }
@@ -113,7 +114,8 @@ impl NodeCore {
 
     /// From now on an area of this number stands for all that it knows, and its snapshot takes the bytes of the capacity.
     pub fn rebase(&mut self, epoch: u64)
-        ensures { self.new ≡ record self.old { room = record { layout = newest; epoch = epoch; taken = snapshot_len newest self.old.known; waits = false } } }
+        ensures value { self.new ≡ record self.old { room = record { layout = newest; epoch = epoch; taken = snapshot_len newest self.old.known; waits = false } } }
+        ensures stands { (base : Base) (h : List Input) → CoreStandsFor self.old base h → CoreStandsFor self.new (base_of newest epoch (summed.summary self.old.me h)) h }
     {
         self.room = Room {
             layout: LAYOUT,
@@ -133,7 +135,7 @@ impl NodeCore {
     /// the input is longer than the capacity.
     pub fn admit(&self, input: &Input) -> Result<(), Refusal>
         ensures value { Refuses self.now input.now (result_err result) }
-        ensures known { (h : List Input) → CoreStandsFor self.now h → result_err result ≡ refusal_by (member_of self.now) h input.now }
+        ensures known { (base : Base) (h : List Input) → CoreStandsFor self.now base h → result_err result ≡ refusal self.now.me self.now.size self.now.capacity base h input.now }
     {
         if let Some(refusal) = self.core.objection(input) {
             return Err(refusal);
@@ -152,9 +154,9 @@ impl NodeCore {
         ensures me { self.new.me ≡ self.old.me }
         ensures ring { self.new.size ≡ self.old.size }
         ensures capacity { self.new.capacity ≡ self.old.capacity }
-        ensures carry { IfOk result (λ effects. (h : List Input) → CoreStandsFor self.old h → effects.carry ≡ carry self.old.me h input) }
-        ensures told { IfOk result (λ effects. (h : List Input) → CoreStandsFor self.old h → effects.notice ≡ told self.old.me h input) }
-        ensures stands { OnOk result ((h : List Input) → CoreStandsFor self.old h → CoreStandsFor self.new (h ++ input ∷ [])) }
+        ensures carry { IfOk result (λ effects. (base : Base) (h : List Input) → CoreStandsFor self.old base h → effects.carry ≡ carry self.old.me h input) }
+        ensures told { IfOk result (λ effects. (base : Base) (h : List Input) → CoreStandsFor self.old base h → effects.notice ≡ told self.old.me h input) }
+        ensures stands { OnOk result ((base : Base) (h : List Input) → CoreStandsFor self.old base h → CoreStandsFor self.new base (h ++ input ∷ [])) }
         ensures err { OnErr result (self.new ≡ self.old) }
     {
         let room = room_behind(&self.room, &input);
@@ -224,7 +226,7 @@ impl NodeCore {
     /// The leader for the key, if one is known. Refused as 23 with the floor of its group where the key is below it.
     pub fn who(&self, key: &Key) -> Result<Option<Candidate>, Refusal>
         ensures value { result ≡ who_by self.now.known key.now }
-        ensures known { (h : List Input) → CoreStandsFor self.now h → result ≡ who_after self.now.me h key.now }
+        ensures known { (base : Base) (h : List Input) → CoreStandsFor self.now base h → result ≡ who_after self.now.me h key.now }
     {
         self.core.who(key)
     }
@@ -232,7 +234,7 @@ impl NodeCore {
     /// The greatest term of the group with a known leader, and that leader.
     pub fn latest(&self, group: &GroupName) -> Option<(Term, Candidate)>
         ensures value { IsLatest (leads_in self.now.known group.now) result }
-        ensures known { (h : List Input) → CoreStandsFor self.now h → result ≡ latest self.now.me h group.now }
+        ensures known { (base : Base) (h : List Input) → CoreStandsFor self.now base h → result ≡ latest self.now.me h group.now }
     {
         self.core.latest(group)
     }
@@ -240,7 +242,7 @@ impl NodeCore {
     /// How many inputs it accepted, at most 2^56.
     pub fn inputs(&self) -> u64
         ensures value { result ≡ self.now.known.inputs }
-        ensures known { (h : List Input) → CoreStandsFor self.now h → result ≡ length h }
+        ensures known { (base : Base) (h : List Input) → CoreStandsFor self.now base h → result ≡ length h }
     {
         self.core.inputs()
     }
@@ -248,7 +250,7 @@ impl NodeCore {
     /// The bytes of the capacity that are taken.
     pub fn used(&self) -> u64
         ensures value { result ≡ self.now.room.taken }
-        ensures known { (h : List Input) → CoreStandsFor self.now h → result ≡ used_by h }
+        ensures known { (base : Base) (h : List Input) → CoreStandsFor self.now base h → result ≡ used base h }
     {
         self.room.taken
     }
@@ -263,7 +265,7 @@ impl NodeCore {
     /// How many messages it sent.
     pub fn sent(&self) -> u64
         ensures value { result ≡ self.now.known.sent }
-        ensures known { (h : List Input) → CoreStandsFor self.now h → result ≡ length (sent self.now.me h) }
+        ensures known { (base : Base) (h : List Input) → CoreStandsFor self.now base h → result ≡ length (sent self.now.me h) }
     {
         self.core.sent()
     }
@@ -271,7 +273,7 @@ impl NodeCore {
     /// How many messages it took, which is the number that it expects.
     pub fn taken(&self) -> u64
         ensures value { result ≡ self.now.known.taken }
-        ensures known { (h : List Input) → CoreStandsFor self.now h → result ≡ length (taken h) }
+        ensures known { (base : Base) (h : List Input) → CoreStandsFor self.now base h → result ≡ length (taken h) }
     {
         self.core.taken()
     }
@@ -279,7 +281,7 @@ impl NodeCore {
     /// How many of its messages its successor is known to have taken.
     pub fn credit(&self) -> u64
         ensures value { result ≡ self.now.known.credit }
-        ensures known { (h : List Input) → CoreStandsFor self.now h → result ≡ credit h }
+        ensures known { (base : Base) (h : List Input) → CoreStandsFor self.now base h → result ≡ credit h }
     {
         self.core.credit()
     }
@@ -287,7 +289,7 @@ impl NodeCore {
     /// The messages sent and not credited, oldest first.
     pub fn window(&self) -> &[Msg]
         ensures value { result.now ≡ self.now.known.window }
-        ensures known { (h : List Input) → CoreStandsFor self.now h → result.now ≡ drop (credit h) (sent self.now.me h) }
+        ensures known { (base : Base) (h : List Input) → CoreStandsFor self.now base h → result.now ≡ drop (credit h) (sent self.now.me h) }
     {
         self.core.window()
     }
@@ -302,7 +304,7 @@ impl NodeCore {
     /// How many Stands it made.
     pub fn stands(&self) -> u32
         ensures value { result ≡ self.now.known.stands }
-        ensures known { (h : List Input) → CoreStandsFor self.now h → result ≡ stands h }
+        ensures known { (base : Base) (h : List Input) → CoreStandsFor self.now base h → result ≡ stands h }
     {
         self.core.stands()
     }

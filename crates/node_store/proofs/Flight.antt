@@ -18,7 +18,8 @@ use Rattle.ring_records.specs.Known.{after}
 use Rattle.ring_records.specs.Lists.{or_else}
 use Rattle.ring_records.specs.Member.{Member}
 use Rattle.ring_records.specs.Snapshot.{IsSound, snapshot_len}
-use Rattle.ring_records.specs.States.{NodeState, IsNodeState, IsLawfulState, is_idle, launched, durable_in, flown_in, flying_in}
+use Rattle.ring_records.specs.States.{NodeState, is_idle, launched, durable_in, flown_in, flying_in}
+use Rattle.ring_records.specs.Lawful.{IsNodeState, IsLawfulState}
 use Rattle.ring_records.proofs.Counts.{costs-joined}
 use Rattle.ring_records.proofs.Lists.{none≢some}
 use Rattle.ring_records.proofs.States.{lawful-launched, lawful-launched_all, lawful-landed, next-few}
@@ -31,8 +32,10 @@ use Rattle.gated_journal.specs.Journal.{device_of, member_of, len_of, room_of, l
 use Rattle.gated_journal.specs.Reading.{Reading, fresh_area, with_more}
 use Rattle.gated_journal.specs.Unread.{IsFault}
 use Rattle.node_core.specs.Core.{IsNodeOf}
-use Rattle.group_commit.specs.Desk.{DeskKept, DeskView, IsFlying, known_all, next_area, launch_objection, checkpoint_objection, epochs, seen}
+use Rattle.group_commit.specs.Desk.{DeskKept, DeskView, IsFlying, known_all, epochs, seen}
+use Rattle.group_commit.specs.Launching.{next_area, launch_objection, checkpoint_objection}
 use Rattle.group_commit.specs.Desk as desks
+use Rattle.group_commit.specs.Launching as launching
 use Rattle.group_commit.specs.Past.{moved, shifted}
 use Rattle.group_commit.proofs.KeptInputs.{after-inputs}
 use Rattle.group_commit.proofs.Past.{flying-shifted}
@@ -40,10 +43,12 @@ use Rattle.group_commit.proofs.Seen.{launched_shifted, landed_shifted, lawful_la
 use Rattle.gated_journal.specs.declared.work.Work.{Work}
 use Rattle.gated_journal.specs.declared.work.Work.TheVariants as work
 use Rattle.node_store.specs.Recovery.{IsUnbegun}
-use Rattle.node_store.specs.Standing.{Flies, Stands}
+use Rattle.node_store.specs.Standing.{Stands}
+use Rattle.node_store.specs.Flying.{Flies}
 use Rattle.node_store.specs.State.{MayBeLeft, area_with, durable_held, flown_held}
 use Rattle.gated_journal.specs.Frames.{AreSuited}
-use Rattle.gated_journal.specs.Works.{count_after, epoch_after, flown_by, layout_after, reading_after, room_after, summary_by}
+use Rattle.gated_journal.specs.Works.{flown_by, reading_after, summary_by}
+use Rattle.gated_journal.specs.WorkTaken.{count_after, epoch_after, layout_after, room_after}
 use Rattle.node_store.proofs.Left.{may_be_left}
 
 -- ---- why nothing is launched
@@ -234,7 +239,7 @@ module _ {D : Type 0} {g : Ghosts D} (desk : DeskKept) (journal : Journal D g) (
     -- ---- a checkpoint of all
 
     abbrev flies_all : DeskKept
-    flies_all = record desk { view = desks.launched_all desk }
+    flies_all = record desk { view = launching.launched_all desk }
 
     all_counts : IsNodeState flies_all.view.state
     all_counts = record {

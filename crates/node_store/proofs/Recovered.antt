@@ -5,7 +5,8 @@ use Rattle.disk_model.proofs.Ranges.{torn_none}
 use Rattle.ring_records.specs.declared.refusal.Refusal.{Refusal}
 use Rattle.ring_records.specs.declared.refusal.Refusal.TheVariants.{OutOfMemory}
 use Rattle.ring_records.specs.Member.{Member, member}
-use Rattle.ring_records.specs.States.{NodeState, IsLawfulState, left_by}
+use Rattle.ring_records.specs.States.{NodeState, left_by}
+use Rattle.ring_records.specs.Lawful.{IsLawfulState}
 use Rattle.gated_journal.specs.Areas.{ReadsAs, AllReadAs, ReadsAsOneOf}
 use Rattle.gated_journal.specs.Reading.{Reading}
 use Rattle.gated_journal.specs.Unread.{IsFault, IsUnopened}

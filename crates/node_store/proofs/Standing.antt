@@ -10,7 +10,7 @@ use Rattle.ring_records.specs.Answer.{Answered}
 use Rattle.ring_records.specs.Admission.{newest, used}
 use Rattle.ring_records.specs.Lists.{EachAfter}
 use Rattle.ring_records.specs.Member.{Member}
-use Rattle.ring_records.specs.States.{IsLawfulState}
+use Rattle.ring_records.specs.Lawful.{IsLawfulState}
 use Rattle.ring_records.specs.Summary.{empty}
 use Rattle.ring_records.proofs.Lists.{none≢some}
 use Rattle.ring_records.proofs.Snapshots.{length-empty}
@@ -18,7 +18,8 @@ use Rattle.ring_records.proofs.States.{lawful-asked}
 use Rattle.gated_journal.specs.declared.journal.Journal.{Journal}
 use Rattle.gated_journal.specs.Areas.{AllReadAs, ReadsAsOneOf}
 use Rattle.gated_journal.specs.Journal.{device_of, member_of, len_of, room_of, layout_of, epoch_of, is_spoiled}
-use Rattle.gated_journal.specs.Reading.{Reading, count_in, fresh_area, used_in}
+use Rattle.gated_journal.specs.Reading.{Reading, fresh_area}
+use Rattle.gated_journal.specs.Opened.{count_in, used_in}
 use Rattle.node_core.specs.Core.{IsNodeOf}
 use Rattle.group_commit.specs.Desk.{DeskKept, DeskView, core_of, launched, new_desk, seen, IsSubmitted}
 use Rattle.group_commit.specs.Opening.{IsKnownLawful}

@@ -1,19 +1,18 @@
 -- How a node's desk and its journal stand together: between two calls, and while something flies.
-use Rattle.std.specs.Prelude.{◌≡◌, ◌≢◌, ◌⊎◌, ◌+◌, ◌-◌, ℕ, Bool, false, List, length, None}
+use Rattle.std.specs.Prelude.{◌≡◌, ◌≢◌, ◌⊎◌, ◌+◌, ◌-◌, ℕ, Bool, false, List, None}
 use Rattle.disk_model.specs.declared.device.Device.{Ghosts}
 use Rattle.disk_model.specs.Disk.{MayLeave}
 use Rattle.ring_records.specs.declared.input.Input.{Input}
-use Rattle.ring_records.specs.Admission.{costs_of, used}
+use Rattle.ring_records.specs.Admission.{used}
 use Rattle.ring_records.specs.Member.{Member}
-use Rattle.ring_records.specs.States.{IsNodeState, IsLawfulState, durable_in}
+use Rattle.ring_records.specs.States.{durable_in}
+use Rattle.ring_records.specs.Lawful.{IsNodeState, IsLawfulState}
 use Rattle.gated_journal.specs.declared.journal.Journal.{Journal}
-use Rattle.gated_journal.specs.Areas.{ReadsAs, AllReadAs}
+use Rattle.gated_journal.specs.Areas.{ReadsAs}
 use Rattle.gated_journal.specs.Journal.{device_of, member_of, len_of, room_of, layout_of, epoch_of, is_spoiled}
 use Rattle.gated_journal.specs.Reading.{Reading}
-use Rattle.gated_journal.specs.Works.{IsTaken, count_after, epoch_after, flown_by, layout_after, reading_after, room_after, summary_by}
-use Rattle.gated_journal.specs.declared.work.Work.{Work}
 use Rattle.node_core.specs.Core.{IsNodeOf}
-use Rattle.group_commit.specs.Desk.{DeskKept, IsFlying, landed, seen}
+use Rattle.group_commit.specs.Desk.{DeskKept, seen}
 use Rattle.group_commit.specs.Past.{IsPast}
 use Rattle.node_store.specs.State.{durable_held, flown_held}
 
@@ -43,24 +42,3 @@ module _ {D : Type 0} {g : Ghosts D} where
     pub named : member_of journal ≡ desk.view.member
     pub holds : (image : List ℕ) → MayLeave (g.disk (device_of journal)) image → ReadsOnce (member_of journal) (durable_held desk) (flown_held desk) image
     pub ready : desk.view.failed ≡ false → IsReady desk (is_spoiled journal) (len_of journal) (room_of journal) (layout_of journal) (epoch_of journal)
-
-  -- The work flies of a desk that has not failed, in a lawful state. The journal holds what is durable, and takes the work;
-  -- with it the journal holds what flies too, which is something else, and is ready again.
-  pub record Flies (desk : DeskKept) (journal : Journal D g) (work : Work) : Type 0 where
-    pub inside : IsNodeOf desk.view.member.n desk.view.member.node
-    pub whole : desk.gone ≡ 0
-    pub counts : IsNodeState desk.view.state
-    pub lawful : (past : List Input) → IsPast desk.view.member desk.opening past → IsLawfulState desk.view.member (seen past desk).state
-    pub named : member_of journal ≡ desk.view.member
-    pub works : desk.view.failed ≡ false
-    pub flying : IsFlying desk (flown_by work)
-    pub ready : is_spoiled journal ≡ false
-    pub all : AllReadAs (member_of journal) (g.disk (device_of journal)) (durable_held desk)
-    pub taken : IsTaken (member_of journal) (len_of journal) (room_of journal) (layout_of journal) (epoch_of journal) work
-    pub held : reading_after (epoch_of journal) (summary_by work) (flown_by work).inputs (durable_held desk) ≡ flown_held desk
-    pub other : durable_held desk ≢ flown_held desk
-    pub behind : IsReady (record desk { view = landed desk.view }) false
-        (count_after (summary_by work) (length (flown_by work).inputs) (len_of journal))
-        (room_after (flown_by work).snapshot (member_of journal).capacity (costs_of (flown_by work).inputs) (room_of journal))
-        (layout_after (flown_by work).snapshot (layout_of journal))
-        (epoch_after (flown_by work).snapshot (epoch_of journal))

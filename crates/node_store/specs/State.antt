@@ -1,15 +1,16 @@
 -- What a node holds on its device, and what a stop leaves of it.
-use Rattle.std.specs.Prelude.{◌≡◌, ◌&&◌, ℕ, nat_lt, true, false, if◌then◌else◌, List, [], length, take, drop}
+use Rattle.std.specs.Prelude.{◌≡◌, ℕ, true, false, List, [], take, drop}
 use Rattle.disk_model.specs.Disk.{Disk, MayLeave}
 use Rattle.ring_records.specs.declared.base.Base.{Base}
 use Rattle.ring_records.specs.declared.input.Input.{Input}
 use Rattle.ring_records.specs.Known.{after}
 use Rattle.ring_records.specs.Member.{Member}
-use Rattle.ring_records.specs.States.{NodeState, IsLawfulState, launched_base, durable_in, flown_in, left_by}
+use Rattle.ring_records.specs.States.{NodeState, launched_base, durable_in, flown_in, left_by}
+use Rattle.ring_records.specs.Lawful.{IsLawfulState}
 use Rattle.ring_records.specs.Summary.{summary}
 use Rattle.gated_journal.specs.Areas.{ReadsAsOneOf}
 use Rattle.gated_journal.specs.Reading.{Reading}
-use Rattle.group_commit.specs.Desk.{DeskView, DeskKept, launched, launched_all, needs_checkpoint, new_desk, next_area, seen}
+use Rattle.group_commit.specs.Desk.{DeskView, DeskKept, new_desk, seen}
 use Rattle.group_commit.specs.Past.{IsPast}
 
 -- ---- by what its desk keeps
@@ -75,16 +76,3 @@ pub record IsOpenedAs (m : Member) (run : ℕ) (s : NodeState) (desk : DeskKept)
 -- the old desk, with what the new one has durable or flying in flight
 abbrev pub until : DeskKept → DeskKept → DeskKept
 until old new = record old { view = record old.view { state = record old.view.state { flying = new.view.state.flying } } }
-
--- ---- what a flush launches
-
--- all that waits, as a checkpoint, where the area in use can't hold it; and else a batch
-abbrev pub next_flight : DeskKept → DeskView
-next_flight desk = if needs_checkpoint desk then launched_all desk else launched desk.view
-
-abbrev pub flown_next : DeskKept → DeskKept
-flown_next desk = record desk { view = next_flight desk }
-
--- the area in use once nothing waits, where one input waits at most: the next one, where that input needs it
-abbrev pub settled_base : DeskKept → Base
-settled_base desk = if nat_lt desk.view.state.durable (length desk.view.state.inputs) && needs_checkpoint desk then next_area desk else desk.view.state.base

@@ -2,7 +2,8 @@
 ghost use Rattle.std.specs.Prelude.{ℕ, Bool, List};
 ghost use Rattle.disk_model.specs.Disk.{MayLeave};
 ghost use Rattle.ring_records.specs.Member.{Member};
-ghost use Rattle.ring_records.specs.States.{NodeState, IsLawfulState, left_by};
+ghost use Rattle.ring_records.specs.States.{NodeState, left_by};
+ghost use Rattle.ring_records.specs.Lawful.{IsLawfulState};
 ghost use Rattle.group_commit.specs.Desk.{new_desk};
 ghost use Rattle.node_store.specs.Node.{desk_of, device_of};
 ghost use Rattle.node_store.specs.State.{IsOpenedAs, MayBeLeft, reading_of};

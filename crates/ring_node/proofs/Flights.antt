@@ -17,12 +17,14 @@ use Rattle.ring_records.specs.Member.{Member}
 use Rattle.ring_records.specs.Release.{packets}
 use Rattle.ring_records.specs.Snapshot.{snapshot_len}
 use Rattle.ring_records.specs.States as states
-use Rattle.ring_records.specs.States.{NodeState, IsLawfulState, is_idle, launched_base, durable_in, flown_in, flying_in}
+use Rattle.ring_records.specs.States.{NodeState, is_idle, launched_base, durable_in, flown_in, flying_in}
+use Rattle.ring_records.specs.Lawful.{IsLawfulState}
 use Rattle.ring_records.specs.Summary.{summary}
 use Rattle.ring_records.proofs.Lists.{none≢some}
 use Rattle.ring_records.proofs.States.{lawful-launched, lawful-launched_all, lawful-landed}
 use Rattle.gated_journal.specs.Unread.{IsFault}
-use Rattle.group_commit.specs.Desk.{DeskView, DeskKept, known_all, seen, landed, checkpoint_objection, needs_checkpoint}
+use Rattle.group_commit.specs.Desk.{DeskView, DeskKept, known_all, seen, landed}
+use Rattle.group_commit.specs.Launching.{checkpoint_objection, needs_checkpoint}
 use Rattle.group_commit.specs.Opening.{waits_for_area}
 use Rattle.group_commit.specs.Past.{IsPast, moved}
 use Rattle.group_commit.proofs.Seen.{launched_seen, landed_seen, lawful_launched_all}
@@ -31,7 +33,8 @@ use Rattle.ring_node.specs.declared.flight.Flight.{Flight}
 use Rattle.ring_node.specs.declared.flight.Flight.TheVariants.{Batch, Checkpoint}
 use Rattle.ring_node.specs.Held.{HeldView, view_with, AreHeld, AreInside, IsServed, IsWhole, MayFly, MayBegin, MayStop, launched_by, flies}
 use Rattle.ring_node.specs.Messages.{carried_in}
-use Rattle.ring_node.specs.Node.{NodeView, state_of, checkpoint_refusal, launched_as, flying, made_durable, left}
+use Rattle.ring_node.specs.Node.{NodeView, state_of, launched_as, flying, made_durable, left}
+use Rattle.ring_node.specs.Refusals.{checkpoint_refusal}
 use Rattle.ring_node.proofs.Ring.{me_within}
 use Rattle.ring_node.proofs.Sending.{sent-flying, flying-few, inside-front}
 use Rattle.ring_node.proofs.Serving.{base_stays, is_idle_state}

@@ -12,7 +12,8 @@ use Rattle.ring_records.specs.declared.candidate.Candidate.{Candidate}
 use Rattle.ring_records.specs.declared.msg.Msg.{Msg}
 use Rattle.ring_records.specs.declared.packet.Packet.{Packet}
 use Rattle.ring_records.specs.declared.packet.Packet.TheVariants.{Carry}
-use Rattle.ring_records.specs.Admission.{IsAdmitted, IsInTurn, IsLawful}
+use Rattle.ring_records.specs.Admission.{IsInTurn}
+use Rattle.ring_records.specs.Lawful.{IsAdmitted, IsLawful}
 use Rattle.ring_records.specs.States.{NodeState, durable_in, flown_in, flying_in}
 use Rattle.ring_records.specs.Emission.{emit, sent, carry}
 use Rattle.ring_records.specs.History.{message_of, taken}
@@ -21,7 +22,7 @@ use Rattle.ring_records.specs.Message.{candidate_of}
 use Rattle.ring_records.specs.Release.{carries, credits, credit_where, packets}
 use Rattle.ring_records.proofs.Emission.{emit-candidate}
 use Rattle.std.proofs.lemmas.List.{take-append-drop}
-use Rattle.ring_records.proofs.LookBack.{IsItem, take-item}
+use Rattle.ring_records.proofs.Iteration.{IsItem, take-item}
 use Rattle.ring_records.proofs.Growth.{sent-append, EachAfter-take}
 use Rattle.ring_records.proofs.Leader.{Contains-nil}
 use Rattle.ring_records.proofs.Lists.{along, none≢some, found_after-push, Contains-option_cases}
@@ -43,11 +44,6 @@ carried-emit me h x = go (emit me h x)
 pub sent-none : (me : ℕ) → [] ≡ sent me []
 unfolding sent found_after
 sent-none me = refl
-
--- one more input
-pub sent-more : (me : ℕ) (h : List Input) (x : Input) (packet : Option Packet) → packet ≡ carry me h x → sent me h ++ cons_option (carried_by packet) [] ≡ sent me (h ++ x ∷ [])
-unfolding sent
-sent-more me h x packet is = ap (λ (o : Option Msg). found_after (emit me) [] h ++ cons_option o []) (ap carried_by is ∙ carried-emit me h x) ∙ sym (found_after-push (emit me) [] h x)
 
 carried-cons : (o : Option Packet) (packets : List Packet) → carried_in (cons_option o packets) ≡ cons_option (carried_by o) (carried_in packets)
 carried-cons None packets = refl

@@ -8,7 +8,8 @@ use Rattle.std.proofs.lemmas.Bool.{eq-eqb}
 use Rattle.ring_records.specs.declared.input.Input.{Input}
 use Rattle.ring_records.specs.declared.request.Request.{Request}
 use Rattle.ring_records.specs.declared.base.Base.{Base}
-use Rattle.ring_records.specs.Admission.{fresh, newest, IsLawful}
+use Rattle.ring_records.specs.Admission.{fresh, newest}
+use Rattle.ring_records.specs.Lawful.{IsLawful}
 use Rattle.disk_model.specs.Disk.{Reach, Reaches}
 use Rattle.disk_model.specs.FuseDevice.{inner_of, is_idle_device}
 use Rattle.disk_model.specs.MemDevice.{disk_of, limit_of}
@@ -20,7 +21,8 @@ use Rattle.gated_journal.specs.Unread.{header_at, IsFault, IsUnread}
 use Rattle.node_store.specs.Recovery.{IsNotLawful}
 use Rattle.ring_records.specs.Lists.{EachAfter}
 use Rattle.ring_records.specs.Answer.{Answered, gained, answered}
-use Rattle.ring_records.specs.States.{NodeState, IsLawfulState, launched_base, is_idle, gained_by, opened, landed}
+use Rattle.ring_records.specs.States.{NodeState, launched_base, is_idle, gained_by, opened, landed}
+use Rattle.ring_records.specs.Lawful.{IsLawfulState}
 use Rattle.ring_records.specs.declared.summary.Summary.{Summary}
 use Rattle.ring_records.specs.Message.{is_outside}
 use Rattle.ring_records.specs.declared.refusal.Refusal.{Refusal}

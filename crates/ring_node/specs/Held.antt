@@ -9,16 +9,19 @@ use Rattle.ring_records.specs.declared.msg.Msg.{Msg}
 use Rattle.ring_records.specs.declared.input.Input.{Input}
 use Rattle.ring_records.specs.Answer.{Answered}
 use Rattle.ring_records.specs.Admission.{newest}
-use Rattle.ring_records.specs.States.{NodeState, IsLawfulState, durable_in}
+use Rattle.ring_records.specs.States.{NodeState, durable_in}
+use Rattle.ring_records.specs.Lawful.{IsLawfulState}
 use Rattle.ring_records.specs.Emission.{sent}
 use Rattle.ring_records.specs.Message.{candidate_of}
 use Rattle.std.specs.List.{Contains}
 use Rattle.ring_records.specs.Member.{Member}
 use Rattle.gated_journal.specs.Reading.{device_size, is_header}
-use Rattle.group_commit.specs.Desk.{DeskView, DeskKept, seen, launched, launched_all, checkpoint_objection, needs_checkpoint}
+use Rattle.group_commit.specs.Desk.{DeskView, DeskKept, seen, launched}
+use Rattle.group_commit.specs.Launching.{launched_all, checkpoint_objection, needs_checkpoint}
 use Rattle.group_commit.specs.Past.{IsPast}
 use Rattle.group_commit.specs.Ticket.{TicketView, ticket_with}
-use Rattle.ring_node.specs.Node.{NodeView, state_of, checkpoint_refusal, launched_as}
+use Rattle.ring_node.specs.Node.{NodeView, state_of, launched_as}
+use Rattle.ring_node.specs.Refusals.{checkpoint_refusal}
 use Rattle.ring_node.specs.Open.{Open}
 use Rattle.ring_node.specs.declared.flight.Flight.{Flight}
 use Rattle.ring_node.specs.declared.flight.Flight.TheVariants.{Batch, Checkpoint}

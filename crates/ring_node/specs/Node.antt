@@ -1,17 +1,13 @@
 -- What a node of the ring shows, and what its calls make of it. Nothing flies between its calls.
-use Rattle.std.specs.Prelude.{ℕ, ◌+◌, Bool, nat_le, nat_lt, List, [], ◌∷◌, ◌++◌, length, take, Option, None}
+use Rattle.std.specs.Prelude.{ℕ, ◌+◌, Bool, nat_le, List, [], ◌∷◌, ◌++◌, length, take, Option, None}
 use Rattle.ring_records.specs.declared.base.Base.{Base}
 use Rattle.ring_records.specs.declared.input.Input.{Input}
-use Rattle.ring_records.specs.declared.refusal.Refusal.{Refusal}
-use Rattle.ring_records.specs.declared.refusal.Refusal.TheVariants.{Full, Limit}
 use Rattle.ring_records.specs.declared.request.Request.{Request}
 use Rattle.ring_records.specs.States.{NodeState, launched_base, gained_by, answered_by, launched, launched_all, left_by}
-use Rattle.ring_records.specs.Admission.{epochs, fresh, where_so, newest, snapshot_len}
+use Rattle.ring_records.specs.Admission.{fresh}
 use Rattle.ring_records.specs.Emission.{sent}
 use Rattle.ring_records.specs.History.{credit}
-use Rattle.ring_records.specs.Lists.{or_else}
 use Rattle.ring_records.specs.Member.{Member, member}
-use Rattle.ring_records.specs.Summary.{summary}
 use Rattle.ring_node.specs.Open.{Open}
 use Rattle.ring_node.specs.declared.flight.Flight.{Flight}
 use Rattle.ring_node.specs.declared.flight.Flight.TheVariants.{Batch, Checkpoint}
@@ -49,11 +45,6 @@ unfoldable pub asked_with : Option ℕ → Request → NodeView → NodeView
 asked_with serial q v = record v { inputs = v.inputs ++ gained_by v.member (state_of v) q; held = v.held ++ ticket_of serial v q ∷ []; issued = v.issued + 1 }
 
 -- ---- batches and checkpoints
-
--- why no checkpoint is begun, want of memory aside: the journal may write no other area, or the snapshot of all inputs is
--- longer than the capacity
-abbrev pub checkpoint_refusal : Member → NodeState → Option Refusal
-checkpoint_refusal m s = or_else (where_so (nat_le epochs (s.base.epoch + 1)) Limit) (where_so (nat_lt m.capacity (snapshot_len newest (summary m.node s.inputs))) Full)
 
 -- node me in this state launches it
 abbrev pub launched_as : Flight → ℕ → NodeState → NodeState

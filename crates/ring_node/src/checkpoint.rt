@@ -1,6 +1,7 @@
 // Checkpoints of a node.
 ghost use Rattle.std.specs.Prelude.{◌≡◌, ◌⊎◌, ◌-◌, None, Some, length, IfSome, IfOk, IfErr, OnOk, OnErr};
-ghost use Rattle.ring_node.specs.Node.{state_of, checkpoint_refusal, checkpointed};
+ghost use Rattle.ring_node.specs.Node.{state_of, checkpointed};
+ghost use Rattle.ring_node.specs.Refusals.{checkpoint_refusal};
 
 use crate::flight::Flight;
 use crate::node::RingNode;

@@ -2,7 +2,7 @@
 ghost use Rattle.std.specs.Prelude.{◌≡◌, ◌≤◌};
 
 use crate::route::receiver_of;
-use commit_hub::{Begun, Node};
+use commit_hub::{Begun, NodeLedger};
 use group_commit::{Landed, Stub};
 use ring_records::{NodeNo, Packet, Refusal, Reply, Request};
 use std::marker::Model;
@@ -53,7 +53,7 @@ impl Letter {
     }
 
     /// One with the packet of this index of a window of the sender, by the inputs of the token that came with it.
-    pub fn of_window<A: Node>(
+    pub fn of_window<A: NodeLedger>(
         sender: RingPlace,
         window: &[Packet],
         _begun: &Begun<A>,

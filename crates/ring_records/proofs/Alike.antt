@@ -19,7 +19,8 @@ use Rattle.ring_records.specs.Floors.{floor_of}
 use Rattle.ring_records.specs.History.{floor_for, floor, is_retired, if_live, is_named, touched, first_stand, stood, taken}
 use Rattle.ring_records.specs.KeyOrder.{group_cmp}
 use Rattle.ring_records.specs.Known.{stepped}
-use Rattle.ring_records.specs.Leader.{is_bid, makes_leader, first_leader, leader, latest, newly, decided, term_of}
+use Rattle.ring_records.specs.Leader.{is_bid, makes_leader, first_leader, leader, latest, term_of}
+use Rattle.ring_records.specs.Decided.{newly, decided}
 use Rattle.ring_records.specs.Lists.{or_else, found_after, EachAfter}
 use Rattle.ring_records.specs.Message.{key_of, candidate_of}
 use Rattle.ring_records.specs.Order.{is_key}

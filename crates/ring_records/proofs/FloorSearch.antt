@@ -141,10 +141,6 @@ module _ (fs : List Key) (sorted : IsStrictlySortedBy by_group fs) (key : Key) w
 abbrev pub LiveTo : fin.FinMap group_cmp ℕ → List KeyState → ℕ → Type 0
 LiveTo m states i = (k : ℕ) (d : KeyState) → k < i → k < length states → IsLiveState m (get_or states k d)
 
-pub live_all : (m : fin.FinMap group_cmp ℕ) (states : List KeyState) (i : ℕ) → LiveTo m states i → length states ≤ i → AllByRecursion (IsLiveState m) states
-live_all m [] i so_far all = tt
-live_all m (s ∷ states) i so_far all = (so_far 0 s (omega arith) (omega arith), live_all m states (i - 1) (λ k d before inside. so_far (suc k) d (omega (arith, before)) (omega (arith, inside))) (omega (arith, all)))
-
 pub live_at : (m : fin.FinMap group_cmp ℕ) (states : List KeyState) (i : ℕ) (d : KeyState) → AllByRecursion (IsLiveState m) states → i < length states → IsLiveState m (get_or states i d)
 live_at m [] i d each inside = absurd (omega (arith, inside))
 live_at m (s ∷ states) zero d each inside = each.0

@@ -1,9 +1,9 @@
 -- A loop that reads so many items.
-use Rattle.std.proofs.Common.{ℕ, suc, ◌≡◌, List, [], ◌∷◌, ◌++◌, Ok, Err, refl, sym, ap, subst, ◌∙◌, append_assoc, append-nil, inl, inr}
+use Rattle.std.proofs.Common.{ℕ, suc, ◌≡◌, List, [], ◌∷◌, ◌++◌, Ok, Err, refl, sym, ap, subst, ◌∙◌, append_assoc, append-nil, inl}
 use Rattle.std.specs.Prelude.{Result}
 use Rattle.ring_records.specs.declared.record.RecordFault.{RecordFault}
 use Rattle.ring_records.specs.declared.refusal.Refusal.TheVariants as refused
-use Rattle.ring_records.specs.Record.{◌>>=◌}
+use Rattle.ring_records.specs.RecordReading.{◌>>=◌}
 use Rattle.ring_records.specs.SnapshotRead.{items_at, behind_these, IsBroken}
 
 pub one_read : {A : Type 0} (f : List ℕ → Result (A × List ℕ) RecordFault) (found : Result (List A × List ℕ) RecordFault) (xs : List A) (rest after : List ℕ) (x : A) (n m : ℕ)
@@ -28,7 +28,3 @@ all_read f found xs rest n e is = e ∙ (ap (λ k. behind_these xs (items_at f k
 
 pub broken : {A : Type 0} (found : Result A RecordFault) (fault : RecordFault) → found ≡ Err fault → IsBroken (refused.Damaged 0) found
 broken found fault e = subst (IsBroken (refused.Damaged 0)) (sym e) (inl refl)
-
-pub no_memory : {A : Type 0} (found : Result A RecordFault) → IsBroken refused.OutOfMemory found
-no_memory (Ok x) = refl
-no_memory (Err fault) = inr refl

@@ -54,10 +54,6 @@ some_where false s = refl
 pub named-known : (me : ℕ) (h : List Input) (key : Key) → is_some (known_of (summary me h) key) ≡ is_known h key
 named-known me h key = ap is_some (get-states me h key) ∙ some_where (is_known h key) (state_of me h key)
 
--- of a key that is not retired the states say whether it is touched
-pub touched-known : (me : ℕ) (h : List Input) (key : Key) → is_retired h key ≡ false → is_some (known_of (summary me h) key) ≡ touched h key
-touched-known me h key live = named-known me h key ∙ live-touched h key live
-
 pub live-known : (me : ℕ) (h : List Input) (key : Key) → is_below_floor (summary me h).floors key ≡ is_retired h key
 unfolding is_retired
 live-known me h key = ap (ltb key.term) (floor-known h key.group)

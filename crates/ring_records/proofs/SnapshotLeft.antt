@@ -15,7 +15,8 @@ use Rattle.ring_records.specs.Message.{key_of}
 use Rattle.ring_records.specs.Floors.{floor_keys}
 use Rattle.ring_records.specs.Snapshot.{counts_bytes, state_bytes, msg_bytes, IsMessageOf, Spells}
 use Rattle.ring_records.specs.SnapshotPart.{number_bytes, parts_bytes, floors_taken, Parts, AreCounts, IsOwnStateOf, AreRead, NoCounts, NoState, NoMessage, NoEnd, NoFloor}
-use Rattle.ring_records.specs.Record.{number_at, key_at, key_bytes, IsKeyInRange}
+use Rattle.ring_records.specs.Record.{key_bytes, IsKeyInRange}
+use Rattle.ring_records.specs.RecordReading.{number_at, key_at}
 use Rattle.ring_records.specs.SnapshotRead.{state_at, msg_at, counts_at, AreFitting}
 use Rattle.ring_records.proofs.Fields.{same_ok, wide_32, number-again, key-again}
 use Rattle.ring_records.proofs.FloorsInOrder.{len-floors}

@@ -19,7 +19,8 @@ use Rattle.ring_records.specs.declared.summary.Summary.{Summary}
 use Rattle.ring_records.specs.Floors.{floored, floor_keys, IsLive}
 use Rattle.ring_records.specs.KeyOrder.{key_cmp, group_cmp}
 use Rattle.ring_records.specs.KeyStates.{under_key, keyed}
-use Rattle.ring_records.specs.Record.{AreBytes, number_at, key_at, key_bytes, IsKeyInRange}
+use Rattle.ring_records.specs.Record.{AreBytes, key_bytes, IsKeyInRange}
+use Rattle.ring_records.specs.RecordReading.{number_at, key_at}
 use Rattle.ring_records.specs.Snapshot.{state_bytes, msg_bytes, counts_bytes, floors_bytes, snapshot_of, has_stood, IsStateOf, IsMessageOf, IsSound, Spells}
 use Rattle.ring_records.specs.Summary.{empty}
 use Rattle.ring_records.specs.SnapshotRead.{state_at, msg_at, items_at, counts_at, window_size, at_end, some_floors_at, floors_at, parts_at, AreFitting, IsBroken}

@@ -7,11 +7,13 @@ use Rattle.ring_records.specs.declared.base.Base.{Base}
 use Rattle.ring_records.specs.declared.input.Input.{Input}
 use Rattle.ring_records.specs.declared.refusal.Refusal.{Refusal}
 use Rattle.ring_records.specs.declared.request.Request.{Request}
-use Rattle.ring_records.specs.Admission.{base_of, fresh, newest, refusal, Fits, IsBaseOf, IsAdmitted, IsLawful}
+use Rattle.ring_records.specs.Admission.{base_of, fresh, newest, refusal, IsBaseOf}
+use Rattle.ring_records.specs.Lawful.{Fits, IsAdmitted, IsLawful}
 use Rattle.ring_records.specs.Answer.{input_of, if_free, if_input, gained}
 use Rattle.ring_records.specs.Lists.{EachAfter}
 use Rattle.ring_records.specs.Member.{Member}
-use Rattle.ring_records.specs.States.{NodeState, IsNodeState, IsLawfulState, launched_base, is_idle, durable_in, flown_in, gained_by, opened, asked, launched, next_base, launched_all, landed, left_by}
+use Rattle.ring_records.specs.States.{NodeState, launched_base, is_idle, durable_in, flown_in, gained_by, opened, asked, launched, next_base, launched_all, landed, left_by}
+use Rattle.ring_records.specs.Lawful.{IsNodeState, IsLawfulState}
 use Rattle.ring_records.specs.Summary.{summary}
 use Rattle.ring_records.proofs.Admission.{refusal-admitted}
 use Rattle.ring_records.proofs.Growth.{EachAfter-take}

@@ -18,7 +18,7 @@ use Rattle.ring_records.specs.Admission.{has_floors}
 use Rattle.ring_records.specs.Floors.{by_group, floored, IsLive}
 use Rattle.ring_records.specs.KeyOrder.{group_cmp}
 use Rattle.ring_records.specs.KeyStates.{by_state}
-use Rattle.ring_records.specs.Record.{◌>>=◌, byte_at, number_at, key_at, bid_at, candidate_at}
+use Rattle.ring_records.specs.RecordReading.{◌>>=◌, byte_at, number_at, key_at, bid_at, candidate_at}
 use Rattle.ring_records.specs.Snapshot.{has_stood}
 
 -- ---- one item and the bytes after it

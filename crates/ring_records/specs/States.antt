@@ -1,13 +1,12 @@
 -- The state of a durable node, with what the areas of its journal stand for: what may happen to it, and what the node
 -- accepts and answers in it.
-use Rattle.std.specs.Prelude.{ℕ, ◌≡◌, ◌+◌, ◌-◌, ◌≤◌, min, Bool, ◌&&◌, if◌then◌else◌, nat_eq, List, ◌++◌, length, take, drop, Option, Some, None, unwrap_or, is_none}
+use Rattle.std.specs.Prelude.{ℕ, ◌+◌, ◌-◌, min, Bool, ◌&&◌, if◌then◌else◌, nat_eq, List, ◌++◌, length, take, drop, Option, Some, None, unwrap_or, is_none}
 use Rattle.ring_records.specs.declared.base.Base.{Base}
 use Rattle.ring_records.specs.declared.input.Input.{Input}
 use Rattle.ring_records.specs.declared.limits.TheConstants.{BATCH_INPUTS}
-use Rattle.ring_records.specs.declared.refusal.Refusal.{Refusal}
 use Rattle.ring_records.specs.declared.request.Request.{Request}
 use Rattle.ring_records.specs.declared.shown.Shown.{Shown}
-use Rattle.ring_records.specs.Admission.{base_of, newest, refusal, IsBaseOf, IsLawful}
+use Rattle.ring_records.specs.Admission.{base_of, newest}
 use Rattle.ring_records.specs.Answer.{Answered, gained, answered}
 use Rattle.ring_records.specs.Emission.{sent}
 use Rattle.ring_records.specs.History.{taken, credit}
@@ -45,22 +44,11 @@ flown_in s = take s.flying s.inputs
 abbrev pub flying_in : NodeState → List Input
 flying_in s = take (s.flying - s.durable) (drop s.durable s.inputs)
 
--- the area in use stands for durable inputs, and a checkpoint that flies for all that are durable or fly
-pub record IsNodeState (s : NodeState) : Type 0 where
-  pub durable : s.durable ≤ s.flying
-  pub flying : s.flying ≤ length s.inputs
-  pub based : s.base.inputs ≤ s.durable
-  pub checkpointed : (b : Base) → s.checkpoint ≡ Some b → b.inputs ≡ s.flying
-
 -- what node me shows in this state
 abbrev pub shown_in : ℕ → NodeState → Shown
 shown_in me s = record { inputs = length s.inputs; durable = s.durable; sent = length (sent me s.inputs); taken = length (taken s.inputs); credit = credit s.inputs }
 
 -- ---- what the node accepts and answers
-
--- why it refuses an input, if it does
-abbrev pub refusal_by : Member → NodeState → Input → Option Refusal
-refusal_by m s x = refusal m.node m.n m.capacity (launched_base s) s.inputs x
 
 -- the inputs, one or none, that it gains by a request
 abbrev pub gained_by : Member → NodeState → Request → List Input
@@ -99,14 +87,3 @@ landed s = record s { durable = s.flying; base = launched_base s; checkpoint = N
 -- a stop leaves it so: what flies is kept, or it is not
 abbrev pub left_by : Bool → NodeState → NodeState
 left_by keeps_flying s = if keeps_flying then opened (launched_base s) (flown_in s) else opened s.base (durable_in s)
-
--- ---- what stays so
-
--- The areas stand for its first inputs. It may accept what is durable or flies, with room counted from the area in use, and
--- all that it accepted, with room counted from the area that is in use then.
-pub record IsLawfulState (m : Member) (s : NodeState) : Type 0 where
-  pub counts : IsNodeState s
-  pub base : IsBaseOf m.node s.base (durable_in s)
-  pub next : IsBaseOf m.node (launched_base s) s.inputs
-  pub held : IsLawful m.node m.n m.capacity s.base (flown_in s)
-  pub all : IsLawful m.node m.n m.capacity (launched_base s) s.inputs

@@ -19,7 +19,8 @@ impl Model for Floors {
     ghost use Rattle.std.specs.Coded.{coded_ℕ};
     ghost use Rattle.std.specs.FinMap as map;
     ghost use Rattle.std.specs.List.Sorted.{IsStrictlySortedBy};
-    ghost use Rattle.ring_records.specs.KeyOrder.{group_cmp, coded_group};
+    ghost use Rattle.ring_records.specs.KeyOrder.{group_cmp};
+    ghost use Rattle.ring_records.specs.Coded.{coded_group};
     ghost use Rattle.ring_records.specs.Floors.{by_group, floored};
 
     ghost Value = { map.FinMap group_cmp ℕ };

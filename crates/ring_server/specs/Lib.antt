@@ -1,4 +1,1 @@
-pub mod Fits
-pub mod Checks
-pub mod Written
 pub mod Landings

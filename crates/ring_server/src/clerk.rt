@@ -2,7 +2,7 @@
 use crate::held::held_by;
 use crate::links::Links;
 use crate::start_latch::StartLatch;
-use commit_hub::{Hub, Node};
+use commit_hub::{Hub, NodeLedger};
 use crossbeam_channel::{Receiver, Sender};
 use decision_board::{Board, BoardReader, Naming};
 use ring_records::{Decision, GroupName, Key, Refusal};
@@ -46,7 +46,7 @@ pub(crate) fn take_clerk<J: Naming>(
 }
 
 /// What is told of the node. The hub's lock is held once, while counts are copied.
-fn status<A: Node, R: Wait + Clock>(
+fn status<A: NodeLedger, R: Wait + Clock>(
     rt: &R,
     alloc: Global,
     hub: &Hub<A>,
@@ -119,7 +119,7 @@ fn send_back<T: Drop, R: Wait>(rt: &R, back: Sender<T>, answer: Option<T>) {
 
 impl<J: Naming> Clerk<J> {
     /// Answers what is asked. Where there is no answer, who asks finds none to come.
-    fn answer<A: Node, R: Wait + Clock>(
+    fn answer<A: NodeLedger, R: Wait + Clock>(
         &mut self,
         rt: &R,
         alloc: Global,
@@ -142,7 +142,7 @@ impl<J: Naming> Clerk<J> {
 }
 
 /// Answers what the clerk is asked, until it is dismissed. Who asks waits for no sync, and the node for no clerk.
-pub(crate) fn serve_clerk<J: Naming, A: Node, R: Wait + Clock>(
+pub(crate) fn serve_clerk<J: Naming, A: NodeLedger, R: Wait + Clock>(
     rt: &R,
     alloc: Global,
     hub: &Hub<A>,

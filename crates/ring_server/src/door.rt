@@ -1,5 +1,5 @@
 //! A node's doors.
-ghost use Rattle.std.specs.Prelude.{◌≤◌};
+ghost use Rattle.std.specs.Prelude.{◌≡◌, ◌≤◌, length, IfSome};
 
 use crate::enrolled::EnrolledService;
 use crate::event::Event;
@@ -9,7 +9,7 @@ use crate::site::Doors;
 use crate::start_latch::StartLatch;
 use crate::window::send_what_may_miss;
 use client_stream::{ClientReader, ClientWriter, next_client, part};
-use commit_hub::{Hub, Node, Share};
+use commit_hub::{Hub, NodeLedger, Share};
 use decision_board::{Board, BoardReader, Naming};
 use ring_service::{EntryService, HubService};
 use ring_watch::TallyWriter;
@@ -23,20 +23,22 @@ use std::time::{Clock, Duration};
 
 /// What a door serves by: its number, counted from 0, its share of the hub, and its reader of the board.
 #[derive(Drop)]
-pub(crate) struct Seat<J: Naming, A: Node> {
+pub(crate) struct Seat<J: Naming, A: NodeLedger> {
     number: u32,
     share: Share<A>,
     reader: BoardReader<J>,
 }
 
 /// A seat for each of so many doors, or `None` where memory or a place is wanting.
-pub(crate) fn take_seats<J: Naming, A: Node, R: Wait>(
+pub(crate) fn take_seats<J: Naming, A: NodeLedger, R: Wait>(
     rt: &R,
     alloc: Global,
     hub: &Hub<A>,
     board: &Board<J>,
     count: u32,
-) -> Option<Vec<Seat<J, A>>> {
+) -> Option<Vec<Seat<J, A>>>
+    ensures { IfSome result (λ seats. length seats.items ≡ count) }
+{
     let mut seats = Vec::with_capacity(alloc, count as usize).ok()?;
     for number in 0..count {
         let (Ok(share), Ok(reader)) = (hub.enter(rt), board.reader()) else {
@@ -47,7 +49,9 @@ pub(crate) fn take_seats<J: Naming, A: Node, R: Wait>(
             share,
             reader,
         };
-        seats.push(seat).ok()?;
+        if seats.push(seat).is_err() {
+            return None;
+        }
     }
     Some(seats)
 }
@@ -113,7 +117,7 @@ fn serve_client<'a, S: Service, R: Wait + Clock>(
 }
 
 /// Serves the next session, where there is one more, and then sends what the successor may miss. Whether there was one.
-fn serve_next<S: Service, A: Node, R: Wait + Clock>(
+fn serve_next<S: Service, A: NodeLedger, R: Wait + Clock>(
     rt: &R,
     alloc: Global,
     hub: &Hub<A>,
@@ -153,7 +157,7 @@ fn serve_next<S: Service, A: Node, R: Wait + Clock>(
 
 /// Serves a door: one session after the other, while there are some left. The last door of the node says that all are
 /// done. Where the ring does not start, nothing is served.
-pub(crate) fn serve_door<'a, J: Naming, A: Node, R: Wait + Clock>(
+pub(crate) fn serve_door<'a, J: Naming, A: NodeLedger, R: Wait + Clock>(
     rt: &'a R,
     alloc: Global,
     hub: &'a Hub<A>,

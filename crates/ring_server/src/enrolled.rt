@@ -79,6 +79,9 @@ impl<R: Wait, S: Service> Service for EnrolledService<'_, R, S> {
         if is_for_room(&answer) {
             self.links.fill(self.rt);
         }
+        if matches!(answer, Ok(Reply::Refused(Refusal::Limit))) {
+            self.links.limit(self.rt);
+        }
         if matches!(answer, Ok(Reply::Stood)) {
             self.links.watch.ease(self.rt, self.links.node);
         }

@@ -1,11 +1,11 @@
 //! What is told of a ring where all that happens is told.
-use ring_records::{GroupName, NodeNo, Term};
+use ring_records::{Decision, GroupName, NodeNo, Term};
 use std::alloc::{AllocError, Global};
 use std::collections::VecDeque;
 use std::io;
 use std::io::Write;
 
-/// How many are kept at most that are not told yet.
+/// How many are told in a second at most, and kept at most that are not told yet.
 const EVENTS: usize = 1_024;
 
 /// What has happened at a node.
@@ -17,6 +17,8 @@ pub(crate) enum Event {
     Ended(NodeNo, u32),
     /// The node gave up the terms of the group below this one.
     Retired(NodeNo, GroupName, Term),
+    /// This leader became known to the node.
+    Elected(NodeNo, Decision),
 }
 
 impl Event {
@@ -34,17 +36,31 @@ impl Event {
                 err.write_all(group.as_bytes())?;
                 writeln!(err, " retired below {floor}")
             }
+            Event::Elected(node, decision) => {
+                let (key, leader) = (decision.key, decision.leader);
+                write!(err, "ringd: node {node}: ")?;
+                err.write_all(key.group.as_bytes())?;
+                writeln!(
+                    err,
+                    " term {} leader {} bid {}",
+                    key.term, leader.node, leader.bid
+                )
+            }
         }
     }
 }
 
 /// What is to be told of what has happened, where that is asked for: it takes no memory once it is there, and who adds to it
-/// never waits. Where too much comes, what comes last is left out, and counted.
+/// never waits. Where too much comes in a second, or waits, what comes last is left out, and counted.
 #[derive(Drop)]
 pub(crate) struct Events {
     is_asked: bool,
     kept: VecDeque<Event>,
+    // how many more are taken in this second
+    free: usize,
     left_out: u64,
+    // how many were left out before this second, of which nothing is told yet
+    due: u64,
 }
 
 impl Events {
@@ -54,18 +70,30 @@ impl Events {
         Ok(Events {
             is_asked,
             kept: VecDeque::with_capacity(alloc, places)?,
+            free: places,
             left_out: 0,
+            due: 0,
         })
     }
 
-    /// This has happened.
-    pub(crate) fn add(&mut self, event: Event) {
+    /// This has happened. Whether it is to be told.
+    pub(crate) fn add(&mut self, event: Event) -> bool {
         if !self.is_asked {
-            return;
+            return false;
         }
-        if self.kept.len() >= EVENTS || self.kept.push_back(event).is_err() {
+        if self.free == 0 || self.kept.len() >= EVENTS || self.kept.push_back(event).is_err() {
             self.left_out = self.left_out.saturating_add(1);
+            return false;
         }
+        self.free = self.free.saturating_sub(1);
+        true
+    }
+
+    /// A second begins, or nothing more happens: what was left out before is to be told.
+    pub(crate) fn begin_second(&mut self) {
+        self.free = EVENTS;
+        self.due = self.due.saturating_add(self.left_out);
+        self.left_out = 0;
     }
 
     /// The next that is to be told.
@@ -73,10 +101,10 @@ impl Events {
         self.kept.pop_front()
     }
 
-    /// How many were left out, where some were, and all others are told.
+    /// How many were left out before this second, where some were and it was not told.
     pub(crate) fn left_out(&mut self) -> Option<u64> {
-        let count = self.left_out;
-        self.left_out = 0;
+        let count = self.due;
+        self.due = 0;
         if count > 0 { Some(count) } else { None }
     }
 }

@@ -1,10 +1,11 @@
 //! The flusher's thread.
 ghost use Rattle.std.specs.Prelude.{◌≡◌, count_by};
-ghost use Rattle.gated_journal.specs.Works.{syncs_of};
+ghost use Rattle.gated_journal.specs.WorkTaken.{syncs_of};
 ghost use Rattle.ring_server.specs.Landings.{names_a_leader};
 
+use crate::event::Event;
 use crate::links::Links;
-use commit_hub::{Hub, Node};
+use commit_hub::{Hub, NodeLedger};
 use decision_board::Naming;
 use disk_model::Device;
 use group_commit::Landed;
@@ -32,7 +33,7 @@ impl<R: Wait + Clock> Gate for Writing<'_, R> {
 }
 
 /// One round of the flusher, and what it landed. While its device is busy the tally knows since when.
-fn flush_once<V: Device, J: Naming, A: Node, R: Wait + Clock>(
+fn flush_once<V: Device, J: Naming, A: NodeLedger, R: Wait + Clock>(
     rt: &R,
     hub: &Hub<A>,
     flusher: &mut Flusher<V, J, A>,
@@ -75,7 +76,19 @@ fn landing_of(landed: &Landed) -> Landing
     }
 }
 
-/// Counts what landed, and sends what that releases.
+/// Has each leader told that the notices tell.
+fn tell_leaders<R: Wait>(rt: &R, notices: &[Notice], links: &Links<'_>) {
+    if !links.watch.is_verbose() {
+        return;
+    }
+    for notice in notices {
+        if let Notice::Decided(decision) = notice {
+            links.watch.hear(rt, Event::Elected(links.node, *decision));
+        }
+    }
+}
+
+/// Counts what landed, sends what that releases, and has the leaders told.
 fn release<R: Wait>(rt: &R, landed: &Landed, links: &Links<'_>) {
     links.tally.land(rt, landing_of(landed));
     for index in 0..landed.packets.len() {
@@ -83,6 +96,7 @@ fn release<R: Wait>(rt: &R, landed: &Landed, links: &Links<'_>) {
             links.post.send(rt, letter);
         }
     }
+    tell_leaders(rt, &landed.notices, links);
 }
 
 /// A round was refused for want of memory, as were all since then: counts it, has that told where it lasts, and waits a
@@ -103,7 +117,7 @@ fn starve<R: Wait + Clock>(rt: &R, links: &Links<'_>, since: Option<Instant>) ->
 /// Flushes until the hub is closed and nothing waits, and sends what that releases. Behind a checkpoint the hub lets go of
 /// what that stands for. Where a growth is refused it tries again; whatever else is refused fails the node, which is told, so
 /// that nobody waits for ever. Whether it came to its end.
-pub(crate) fn flush_all<V: Device, J: Naming, A: Node, R: Wait + Clock>(
+pub(crate) fn flush_all<V: Device, J: Naming, A: NodeLedger, R: Wait + Clock>(
     rt: &R,
     hub: &Hub<A>,
     flusher: &mut Flusher<V, J, A>,
@@ -124,7 +138,7 @@ pub(crate) fn flush_all<V: Device, J: Naming, A: Node, R: Wait + Clock>(
             Err(_) => break,
         }
     }
-    hub.abandon(rt);
+    flusher.abandon(rt, hub);
     links.fail(rt, flusher.cause());
     false
 }

@@ -9,7 +9,7 @@ ghost use Rattle.ring_post.specs.Intakes.{IsFree, asks_alone, away_of, greatest_
 use crate::links::Links;
 use crate::pace::{Coming, next};
 use crate::window::send_what_may_miss;
-use commit_hub::{Hub, Node, Share};
+use commit_hub::{Hub, NodeLedger, Share};
 use crossbeam_channel::Receiver;
 use group_commit::Ticket;
 use ring_post::{Intake, Letter, Outcome, Pace, Step, is_full, lacks_room};
@@ -22,7 +22,7 @@ use std::time::Clock;
 const LETTERS: u32 = 64;
 
 /// What an inbox has at hand: its hub and its share of it, what it sends by, and what it knows and has asked.
-struct Inbox<'a, A: Node> {
+struct Inbox<'a, A: NodeLedger> {
     hub: &'a Hub<A>,
     links: &'a Links<'a>,
     share: Share<A>,
@@ -31,7 +31,7 @@ struct Inbox<'a, A: Node> {
 
 /// Takes letters until the letterbox is closed and empty. What is not taken, for want of memory or room or since the node has
 /// failed, is lost, and comes again: between two rounds this node sends what its own successor may miss. No ticket is left open.
-pub(crate) fn take_all<'a, A: Node, R: Wait + Clock>(
+pub(crate) fn take_all<'a, A: NodeLedger, R: Wait + Clock>(
     rt: &R,
     alloc: Global,
     hub: &'a Hub<A>,
@@ -74,7 +74,7 @@ pub(crate) fn take_all<'a, A: Node, R: Wait + Clock>(
 }
 
 /// Hears what waits in the letterbox, as much as fits a batch. Whether it leaves some.
-fn hear_waiting<A: Node, R: Wait + Clock>(
+fn hear_waiting<A: NodeLedger, R: Wait + Clock>(
     rt: &R,
     inbox: &mut Inbox<'_, A>,
     letters: &Receiver<Letter>,
@@ -92,7 +92,7 @@ fn hear_waiting<A: Node, R: Wait + Clock>(
 }
 
 /// Hears a letter, and does what is to be done before it hears the next.
-fn hear<A: Node, R: Wait + Clock>(rt: &R, inbox: &mut Inbox<'_, A>, letter: Letter)
+fn hear<A: NodeLedger, R: Wait + Clock>(rt: &R, inbox: &mut Inbox<'_, A>, letter: Letter)
     requires { IsFree inbox.old.intake }
     ensures { IsFree inbox.new.intake }
 {
@@ -108,7 +108,7 @@ fn hear<A: Node, R: Wait + Clock>(rt: &R, inbox: &mut Inbox<'_, A>, letter: Lett
 }
 
 /// Does what is to be done next about the message at hand.
-fn step<A: Node, R: Wait>(rt: &R, inbox: &mut Inbox<'_, A>) {
+fn step<A: NodeLedger, R: Wait>(rt: &R, inbox: &mut Inbox<'_, A>) {
     let look = inbox.hub.look(rt);
     match inbox.intake.next(&look) {
         Step::Rest => {}
@@ -124,7 +124,7 @@ fn step<A: Node, R: Wait>(rt: &R, inbox: &mut Inbox<'_, A>) {
 }
 
 /// Tells of the credits that are due, and waits for what was asked.
-fn end_round<A: Node, R: Wait>(rt: &R, inbox: &mut Inbox<'_, A>)
+fn end_round<A: NodeLedger, R: Wait>(rt: &R, inbox: &mut Inbox<'_, A>)
     ensures tickets { tickets_of inbox.new.intake ≡ [] }
     ensures free { IsFree inbox.old.intake → IsFree inbox.new.intake }
 {
@@ -136,7 +136,7 @@ fn end_round<A: Node, R: Wait>(rt: &R, inbox: &mut Inbox<'_, A>)
 }
 
 /// Asks the node to take the message at hand.
-fn ask<A: Node, R: Wait>(rt: &R, inbox: &mut Inbox<'_, A>, question: Request)
+fn ask<A: NodeLedger, R: Wait>(rt: &R, inbox: &mut Inbox<'_, A>, question: Request)
     requires { at_hand (hand_of inbox.old.intake) ≡ Some question }
     ensures { hand_of inbox.new.intake ≡ Empty }
 {
@@ -151,7 +151,7 @@ fn ask<A: Node, R: Wait>(rt: &R, inbox: &mut Inbox<'_, A>, question: Request)
 }
 
 /// Tells the node of the greatest credit that was heard.
-fn tell<A: Node, R: Wait>(rt: &R, inbox: &mut Inbox<'_, A>, question: Request)
+fn tell<A: NodeLedger, R: Wait>(rt: &R, inbox: &mut Inbox<'_, A>, question: Request)
     requires { question ≡ Acked (greatest_heard inbox.old.intake) }
     ensures { (hand_of inbox.new.intake ≡ hand_of inbox.old.intake) × (asks_alone inbox.new.intake ≡ asks_alone inbox.old.intake) }
 {
@@ -163,14 +163,14 @@ fn tell<A: Node, R: Wait>(rt: &R, inbox: &mut Inbox<'_, A>, question: Request)
 }
 
 /// Waits for the reply to the last ticket.
-fn redeem<A: Node, R: Wait>(rt: &R, inbox: &mut Inbox<'_, A>) {
+fn redeem<A: NodeLedger, R: Wait>(rt: &R, inbox: &mut Inbox<'_, A>) {
     if let Some(ticket) = inbox.intake.take_ticket() {
         release(rt, inbox, ticket);
     }
 }
 
 /// Waits for the replies. The last one rests on all inputs before it, so there is one wait for all of them.
-fn redeem_all<A: Node, R: Wait>(rt: &R, inbox: &mut Inbox<'_, A>)
+fn redeem_all<A: NodeLedger, R: Wait>(rt: &R, inbox: &mut Inbox<'_, A>)
     ensures tickets { tickets_of inbox.new.intake ≡ [] }
     ensures free { IsFree inbox.old.intake → IsFree inbox.new.intake }
 {
@@ -180,7 +180,7 @@ fn redeem_all<A: Node, R: Wait>(rt: &R, inbox: &mut Inbox<'_, A>)
 }
 
 /// Waits for the reply, and does what comes of it.
-fn release<A: Node, R: Wait>(rt: &R, inbox: &mut Inbox<'_, A>, ticket: Ticket)
+fn release<A: NodeLedger, R: Wait>(rt: &R, inbox: &mut Inbox<'_, A>, ticket: Ticket)
     requires { away_of inbox.old.intake ≡ Some (shown ticket).question }
     ensures tickets { tickets_of inbox.new.intake ≡ tickets_of inbox.old.intake }
     ensures free { IsFree inbox.old.intake → IsFree inbox.new.intake }

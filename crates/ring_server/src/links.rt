@@ -67,18 +67,15 @@ pub(crate) struct Links<'a> {
 }
 
 impl<'a> Links<'a> {
-    /// Those of this node of a ring of so many.
+    /// Those of the node at this place.
     pub(crate) fn new(
         shared: &'a Shared,
         successor: &'a Successor,
         tally: &'a Tally,
         turnstile: &'a Turnstile,
-        node: NodeNo,
-        nodes: u8,
+        place: RingPlace,
     ) -> Links<'a>
-        requires { (node ≤ nodes) × (nodes ≤ 16) }
-        ensures node { result.node ≡ node }
-        ensures nodes { result.nodes ≡ nodes }
+        ensures { (result.node ≡ place.node) × (result.nodes ≡ place.nodes) }
     {
         Links {
             post: &shared.post,
@@ -87,8 +84,8 @@ impl<'a> Links<'a> {
             tally,
             turnstile,
             reception: shared.reception(),
-            node,
-            nodes,
+            node: place.node,
+            nodes: place.nodes,
         }
     }
 
@@ -137,6 +134,11 @@ impl<'a> Links<'a> {
     /// The node refused a message or a client for want of room.
     pub(crate) fn fill<R: Wait>(&self, rt: &R) {
         self.watch.fill(rt, self.node);
+    }
+
+    /// The node refused a client, since it has all Stands that it may take.
+    pub(crate) fn limit<R: Wait>(&self, rt: &R) {
+        self.watch.limit(rt, self.node);
     }
 
     /// The node's rounds have been refused for a while for want of memory.

@@ -1,5 +1,4 @@
 //! All nodes of a ring, each in threads of its own.
-use crate::log::Log;
 use crate::node::serve_node;
 use crate::post::Post;
 use crate::run_fault::RunFault;
@@ -7,11 +6,11 @@ use crate::shared::Shared;
 use crate::site::Site;
 use crate::start_latch::{Shortage, StartLatch};
 use crate::troubles::Troubles;
-use crate::unopened::{Place, print_fault};
 use crate::watch::{News, Watch};
 use disk_model::{Device, SystemFault};
 use log_lines::{Level, LogForm};
 use ring_records::{NodeNo, Shown};
+use ring_start::{Log, Place, print_fault};
 use ring_watch::{StatusPort, Tally};
 use std::alloc::{AllocError, Global};
 use std::io::Write;

@@ -2,32 +2,23 @@
 ghost use Rattle.std.specs.Prelude.{◌≡◌, length};
 ghost use Rattle.ring_records.specs.declared.limits.TheConstants.{DOORS};
 ghost use Rattle.ring_service.specs.Words.{IsIn};
-ghost use Rattle.ring_server.specs.Fits.{found_as, IsInOrder, Fits};
+ghost use Rattle.ring_start.specs.Fits.{found_as, IsInOrder, Fits};
 
-use crate::check::tell_ring;
-use crate::folder::Folder;
-use crate::found::Found;
-use crate::identity::{of_ring, open_folder};
-use crate::limits::{look_at_descriptors, look_at_files};
-use crate::log::Log;
-use crate::opening::{find_ring, open_ring};
 use crate::ports::Ports;
 use crate::post::Post;
-use crate::ready::Ready;
 use crate::ring::{Ring, serve_ring};
 use crate::run_fault::RunFault;
 use crate::site::{Doors, Site};
 use crate::taking::{print_settings, take_settings};
-use crate::tellings::{tell_capacities, tell_identity, tell_kept, tell_start};
 use clap::Error;
 use clap::error::ErrorKind as WordFault;
 use crossbeam_channel::Receiver;
 use disk_model::FileDevice;
-use folder_plan::{FolderStep, Identity};
+use folder_plan::FolderStep;
 use log_lines::{Level, LogForm};
 use ring_post::Letter;
-use ring_records::NodeNo;
-use ring_service::{Settings, Words, read_words};
+use ring_service::{Settings, VERSION, Words, read_words};
+use ring_start::{Basis, Found, Log, Ready, Target, check_ring, look_at_descriptors, make_ring};
 use ring_watch::{Inquiry, StatusPort};
 use std::alloc::{AllocError, Global};
 use std::fs::File;
@@ -141,13 +132,7 @@ where
         return Err(RunFault::Output);
     }
     let end = match (words.always, words.serve) {
-        _ if words.make => make(
-            rt,
-            alloc,
-            &settings,
-            words.ring,
-            &mut Log::new(rt, err, call.log),
-        ),
+        _ if words.make => make(rt, alloc, &settings, call, err),
         _ if words.check => check(rt, alloc, &settings, words, out),
         (true, _) => serve(rt, alloc, &settings, call, None, out, err),
         (false, Some(count)) => serve(rt, alloc, &settings, call, Some(count), out, err),
@@ -164,15 +149,6 @@ where
     }
 }
 
-/// What a start goes by: the settings, the folder, and whether a ring was made there before.
-#[derive(Clone, Copy)]
-struct Basis<'a> {
-    alloc: Global,
-    settings: &'a Settings,
-    folder: &'a Folder<'a>,
-    is_made: bool,
-}
-
 /// How a ring serves: its ports, the doors of each node, whether it ends with the first node that fails, what a line on
 /// standard error begins with, and whether all that happens is told there.
 #[derive(Drop)]
@@ -184,15 +160,14 @@ struct Serving {
     verbose: bool,
 }
 
-/// Whether a ring was made in the folder before.
-fn is_made<R: Files<File = File>>(
-    rt: &R,
-    alloc: Global,
-    folder: &Folder<'_>,
-) -> Result<bool, RunFault> {
-    match folder.is_made(rt, alloc) {
-        Ok(is_made) => Ok(is_made),
-        Err(why) => Err(RunFault::Node(NodeNo::first(), why)),
+/// The ring that a start is for, by these settings and words.
+fn target_of(settings: &Settings, words: &Words<'_>) -> Target
+    ensures { (result.nodes ≡ settings.now.nodes) × (result.capacity ≡ settings.now.capacity) }
+{
+    Target {
+        nodes: settings.nodes,
+        capacity: settings.capacity,
+        ring: words.ring,
     }
 }
 
@@ -204,41 +179,21 @@ fn check<R: Files<File = File>, O: Write>(
     words: &Words<'_>,
     out: &mut O,
 ) -> Result<u8, RunFault> {
-    let folder = match Folder::look(rt, settings.dir.as_str()) {
-        Ok(folder) => of_ring(rt, alloc, folder, words.ring)?,
-        Err(why) => return Err(RunFault::Node(NodeNo::first(), why)),
-    };
-    let found = find_ring(rt, alloc, &folder, settings, true)?;
-    tell_ring(alloc, &found, words.leaders, out)
+    let target = target_of(settings, words);
+    Ok(check_ring(rt, alloc, settings.dir.as_str(), target, words.leaders, out)?)
 }
 
 /// Makes the nodes that are not there, as a start does, and serves nothing. Where it is refused, what it made is gone.
-/// An identity that is asked for is that of a ring that was made before.
-pub fn make<R: Files<File = File>, C: Clock, E: Write>(
+fn make<R: Files<File = File> + Clock, E: Write>(
     rt: &R,
     alloc: Global,
     settings: &Settings,
-    ring: Option<Identity>,
-    log: &mut Log<'_, C, E>,
+    call: &Call<'_>,
+    err: &mut E,
 ) -> Result<u8, RunFault> {
-    let folder = open_folder(rt, alloc, settings, ring)?;
-    let basis = Basis {
-        alloc,
-        settings,
-        folder: &folder,
-        is_made: is_made(rt, alloc, &folder)?,
-    };
-    let found = find_ring(rt, alloc, &folder, settings, basis.is_made)?;
-    tell_capacities(log, settings, &found);
-    look_at_files(&found)?;
-    let mut begun = Vec::new(alloc);
-    match make_ready(rt, &basis, found, &mut begun, log) {
-        Ok(_) => Ok(0),
-        Err(fault) => {
-            folder.take_back(rt, alloc, &begun);
-            Err(fault)
-        }
-    }
+    let target = target_of(settings, &call.words);
+    let mut log = Log::new(rt, err, call.log);
+    Ok(make_ring(rt, alloc, settings.dir.as_str(), target, VERSION, &mut log)?)
 }
 
 /// Finds the nodes, has their ports, makes the nodes ready, and serves so many sessions at each, or without end. Where
@@ -267,18 +222,8 @@ where
 {
     let words = &call.words;
     // Its lock is held until the last node has ended.
-    let folder = open_folder(rt, alloc, settings, words.ring)?;
-    let basis = Basis {
-        alloc,
-        settings,
-        folder: &folder,
-        is_made: is_made(rt, alloc, &folder)?,
-    };
-    let existing = basis.is_made || words.existing;
-    let found = find_ring(rt, alloc, &folder, settings, existing)?;
-    let mut log = Log::new(rt, err, call.log);
-    tell_capacities(&mut log, settings, &found);
-    look_at_files(&found)?;
+    let basis = Basis::open(rt, alloc, settings.dir.as_str(), target_of(settings, words))?;
+    let found = basis.find(rt, words.existing, &mut Log::new(rt, err, call.log))?;
     look_at_descriptors(settings.nodes, words.doors)?;
     let serving = Serving {
         ports: Ports::listen(rt, alloc, settings, words, call.said)?,
@@ -290,7 +235,7 @@ where
     let mut begun = Vec::new(alloc);
     let end = serve_found(rt, &basis, found, serving, &mut begun, out, err);
     if end.is_err() {
-        folder.take_back(rt, alloc, &begun);
+        basis.take_back(rt, &begun);
     }
     end
 }
@@ -316,10 +261,16 @@ where
         + Files<File = File>
         + Net<Listener = TcpListener, Stream = TcpStream>,
     requires order { IsInOrder found_as found.items }
-    requires count { length found.items ≡ basis.now.settings.now.nodes }
-    requires fits { Fits found_as basis.now.settings.now.nodes found.items }
+    requires count { length found.items ≡ basis.now.target.nodes }
+    requires fits { Fits found_as basis.now.target.nodes found.items }
 {
-    let ready = make_ready(rt, basis, found, begun, &mut Log::new(rt, err, serving.log))?;
+    let ready = basis.make_ready(
+        rt,
+        VERSION,
+        found,
+        begun,
+        &mut Log::new(rt, err, serving.log),
+    )?;
     let Serving {
         ports: Ports {
             listeners,
@@ -333,13 +284,13 @@ where
     } = serving;
     let alloc = basis.alloc;
     let status = named(rt, basis, status)?;
-    let (post, inboxes) = Post::new(alloc, basis.settings.nodes)?;
+    let (post, inboxes) = Post::new(alloc, basis.target.nodes)?;
     let ring = Ring {
         sites: take_sites(alloc, ready, inboxes, listeners, clerks, doors)?,
         post,
         status,
         fail_stop,
-        dir: String::from_str(alloc, basis.settings.dir.as_str())?,
+        dir: String::from_str(alloc, basis.dir())?,
         log,
         verbose,
     };
@@ -355,40 +306,10 @@ fn named<R: Files<File = File>>(
     let Some(mut status) = status else {
         return Ok(None);
     };
-    if let Ok(Some(identity)) = basis.folder.identity(rt, basis.alloc) {
+    if let Some(identity) = basis.identity(rt) {
         status.name_ring(Some(format!(in basis.alloc; "{identity}")?));
     }
     Ok(Some(status))
-}
-
-/// Makes the nodes ready that were found, and marks the folder as one where a ring was made.
-fn make_ready<R: Files<File = File>, C: Clock, E: Write>(
-    rt: &R,
-    basis: &Basis<'_>,
-    found: Vec<Found<FileDevice>>,
-    begun: &mut Vec<FolderStep>,
-    log: &mut Log<'_, C, E>,
-) -> Result<Vec<Ready<FileDevice>>, RunFault>
-    requires order { IsInOrder found_as found.items }
-    requires count { length found.items ≡ basis.now.settings.now.nodes }
-    requires fits { Fits found_as basis.now.settings.now.nodes found.items }
-{
-    let Basis {
-        alloc,
-        settings,
-        folder,
-        is_made,
-    } = *basis;
-    tell_start(log, &found);
-    let ready = open_ring(rt, alloc, folder, settings, found, begun)?;
-    tell_kept(log, &ready);
-    if !is_made {
-        if let Err(why) = folder.mark_made(rt, alloc, begun) {
-            return Err(RunFault::Node(NodeNo::first(), why));
-        }
-    }
-    tell_identity(rt, alloc, folder, log);
-    Ok(ready)
 }
 
 /// A site for each node, in their order, with a clerk where there is one.

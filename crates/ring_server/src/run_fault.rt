@@ -1,11 +1,8 @@
 //! What ends a run of `ringd` before its end.
-use crate::log::Log;
-use crate::unopened::Unopened;
 use disk_model::SystemFault;
-use folder_plan::Identity;
 use log_lines::Level;
-use ring_records::NodeNo;
 use ring_service::{Host, Setting, StartFault, line_of_fault, unknown_key};
+use ring_start::{Log, RingFault};
 use std::alloc::{AllocError, Global};
 use std::io::Write;
 use std::net::SocketAddr;
@@ -22,24 +19,9 @@ pub enum RunFault {
     /// They are refused.
     #[error(transparent)]
     Start(#[from] StartFault),
-    /// A node was not opened.
-    #[error("node {0}: {1}")]
-    Node(NodeNo, Unopened),
-    /// The ring of the folder has this identity, and not the one that is asked for.
-    #[error("the ring is {0}")]
-    OtherRing(Identity),
-    /// The ring of the folder, or the folder, has no identity, and one is asked for.
-    #[error("the ring has no identity")]
-    NoIdentity,
-    /// The histories of two nodes are not of one time.
-    #[error("nodes {0} and {1} do not fit")]
-    Apart(NodeNo, NodeNo),
-    /// The system lets a file have so many bytes, and that of a node takes so many.
-    #[error("a file may have {0} bytes, and a node's takes {1}")]
-    FileLimit(u64, u64),
-    /// The system lets the process have so many descriptors, and the ring takes so many.
-    #[error("{0} descriptors may be had, and the ring takes {1}")]
-    Descriptors(u64, u64),
+    /// The ring was not opened.
+    #[error(transparent)]
+    Ring(#[from] RingFault),
     /// The host that is to be listened at has a name of which the system tells no address.
     #[error("no address is known to listen at")]
     Host,
@@ -67,7 +49,7 @@ impl RunFault {
         host: Host<'_>,
     ) -> io::Result<()> {
         match self {
-            RunFault::Node(node, why) => why.print(log, dir, *node),
+            RunFault::Ring(fault) => fault.print_answer(log, dir),
             RunFault::Port(address, fault) => {
                 writeln!(log.line(Level::Error), "ringd: {address}: {fault}")
             }

@@ -3,13 +3,13 @@ ghost use Rattle.std.specs.Prelude.{◌≡◌, ◌+◌, ◌≤◌, min};
 ghost use Rattle.ring_records.specs.declared.limits.TheConstants.{DOORS};
 ghost use Rattle.commit_hub.specs.Pages.{places_of};
 
-use crate::open_node::OpenNode;
 use commit_hub::Blanks;
 use crossbeam_channel::Receiver;
 use decision_board::Opened;
 use disk_model::Device;
-use ring_post::Letter;
+use ring_post::{Letter, RingPlace};
 use ring_records::{DOORS, NodeNo};
+use ring_start::OpenNode;
 use ring_watch::Inquiry;
 use std::alloc::Global;
 use std::net::TcpListener;
@@ -86,6 +86,16 @@ impl Doors {
     }
 }
 
+/// The place of a node in its ring.
+fn place_of<V: Device>(opened: &OpenNode<V>) -> RingPlace
+    ensures { (result.node ≡ opened.now.number) × (result.nodes ≡ opened.now.nodes) }
+{
+    RingPlace {
+        node: opened.number,
+        nodes: opened.nodes,
+    }
+}
+
 /// Where messages and clients come to a node, how its doors serve, and what its clerk is asked, where it has one.
 #[derive(Drop)]
 pub(crate) struct Entrance {
@@ -141,5 +151,12 @@ impl<V: Device> Site<V> {
     /// Which node it is.
     pub(crate) fn node(&self) -> NodeNo {
         self.opened.number
+    }
+
+    /// Its place in the ring.
+    pub(crate) fn place(&self) -> RingPlace
+        ensures { (result.node ≡ self.now.opened.number) × (result.nodes ≡ self.now.opened.nodes) }
+    {
+        place_of(&self.opened)
     }
 }

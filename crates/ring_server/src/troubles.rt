@@ -1,21 +1,21 @@
 //! What is told of the troubles of a ring's nodes while they serve.
-use crate::log::Log;
 use crate::shared::Shared;
 use crate::watch::{Wants, place};
 use log_lines::{Level, Spell, Turn};
 use ring_records::NodeNo;
+use ring_start::Log;
 use ring_status::hangs;
 use std::io::Write;
 use std::sync::Wait;
 use std::time::{Clock, Instant};
 
-/// What is told of the troubles of a node, and of how many leaders.
+/// What is told of the troubles of a node.
 #[derive(Clone, Copy)]
 struct Told {
     hangs: Spell,
     room: Spell,
     memory: Spell,
-    elections: u64,
+    stands: Spell,
     has_failed: bool,
 }
 
@@ -25,7 +25,7 @@ impl Told {
             hangs: Spell::new(),
             room: Spell::new(),
             memory: Spell::new(),
-            elections: 0,
+            stands: Spell::new(),
             has_failed: false,
         }
     }
@@ -55,33 +55,26 @@ impl Told {
     ) {
         let room = self.room.look(wants.room, second);
         let memory = self.memory.look(wants.memory, second);
+        let stands = self.stands.look(wants.stands, second);
         if room == Some(Turn::Begins) {
             let _ = writeln!(log.line(Level::Warning), "ringd: node {node} full");
         }
         if memory == Some(Turn::Begins) {
             let _ = writeln!(log.line(Level::Warning), "ringd: node {node} memory");
         }
-        let is_over = room == Some(Turn::Ends) || memory == Some(Turn::Ends);
-        if is_over && !self.room.is_told && !self.memory.is_told {
+        if stands == Some(Turn::Begins) {
+            let _ = writeln!(log.line(Level::Warning), "ringd: node {node} at limit");
+        }
+        let ends = Some(Turn::Ends);
+        let is_over = room == ends || memory == ends || stands == ends;
+        if is_over && !self.wants_something() {
             let _ = writeln!(log.line(Level::Warning), "ringd: node {node} well again");
         }
     }
 
-    /// Tells of how many leaders it heard since it was told last.
-    fn tell_elections<C: Clock, E: Write>(
-        &mut self,
-        log: &mut Log<'_, C, E>,
-        node: NodeNo,
-        elections: u64,
-    ) {
-        let more = elections.saturating_sub(self.elections);
-        self.elections = elections;
-        if more > 0 {
-            let _ = writeln!(
-                log.line(Level::Debug),
-                "ringd: node {node}: elections {more}"
-            );
-        }
+    /// Whether it is told to want something.
+    fn wants_something(&self) -> bool {
+        self.room.is_told || self.memory.is_told || self.stands.is_told
     }
 }
 
@@ -140,6 +133,9 @@ impl Troubles {
     ) {
         let now = Instant::now(rt).ok();
         let second = self.second(now);
+        if second != self.looked {
+            shared.watch.begin_second(rt);
+        }
         self.looked = second;
         let mut number = 0u8;
         for (told, tally) in self.told.iter_mut().zip(&shared.tallies) {
@@ -153,9 +149,6 @@ impl Troubles {
             let counts = tally.counts(rt);
             told.tell_hang(log, node, hangs(counts.writing(now)), second);
             told.tell_wants(log, node, shared.watch.wants(rt, node), second);
-            if shared.watch.is_verbose() {
-                told.tell_elections(log, node, counts.elections);
-            }
         }
     }
 }

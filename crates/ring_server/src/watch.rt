@@ -58,11 +58,20 @@ pub(crate) struct Wants {
     pub(crate) room: bool,
     /// Memory: its rounds have been refused for a while for want of that.
     pub(crate) memory: bool,
+    /// Stands that it gives up: it refused a client, since it has all that it may take.
+    pub(crate) stands: bool,
+}
+
+impl Wants {
+    fn are_some(&self) -> bool {
+        self.room || self.memory || self.stands
+    }
 }
 
 const NOTHING: Wants = Wants {
     room: false,
     memory: false,
+    stands: false,
 };
 
 #[derive(Drop)]
@@ -104,14 +113,16 @@ impl Book {
     /// The node wants this from now on.
     fn want(&mut self, node: NodeNo, wants: Wants) {
         if let Some(known) = self.wants.get_mut(place(node)) {
-            self.has_changed |= known.room != wants.room || known.memory != wants.memory;
+            self.has_changed |= known.room != wants.room
+                || known.memory != wants.memory
+                || known.stands != wants.stands;
             *known = wants;
         }
     }
 
     /// Whether some node wants something.
     fn is_anything_wanted(&self) -> bool {
-        self.wants.iter().any(|wants| wants.room || wants.memory)
+        self.wants.iter().any(|wants| wants.are_some())
     }
 
     /// The next that is to be told: a failed node before all else, and the end behind all.
@@ -194,27 +205,40 @@ impl Watch {
         if !self.is_verbose {
             return;
         }
-        self.book.lock(rt).events.add(event);
-        self.bell.notify_all();
+        let is_told = self.book.lock(rt).events.add(event);
+        if is_told {
+            self.bell.notify_all();
+        }
+    }
+
+    /// A second begins in which a ring is told of.
+    pub(crate) fn begin_second<R: Wait>(&self, rt: &R) {
+        if self.is_verbose {
+            self.book.lock(rt).events.begin_second();
+        }
     }
 
     /// The node refused a message or a client for want of room.
     pub(crate) fn fill<R: Wait>(&self, rt: &R, node: NodeNo) {
         let mut book = self.book.lock(rt);
-        let wants = Wants {
-            room: true,
-            memory: book.wants(node).memory,
-        };
+        let mut wants = book.wants(node);
+        wants.room = true;
+        self.change(&mut book, node, wants);
+    }
+
+    /// The node refused a client, since it has all Stands that it may take.
+    pub(crate) fn limit<R: Wait>(&self, rt: &R, node: NodeNo) {
+        let mut book = self.book.lock(rt);
+        let mut wants = book.wants(node);
+        wants.stands = true;
         self.change(&mut book, node, wants);
     }
 
     /// The node's rounds have been refused for a while for want of memory.
     pub(crate) fn starve<R: Wait>(&self, rt: &R, node: NodeNo) {
         let mut book = self.book.lock(rt);
-        let wants = Wants {
-            room: book.wants(node).room,
-            memory: true,
-        };
+        let mut wants = book.wants(node);
+        wants.memory = true;
         self.change(&mut book, node, wants);
     }
 
@@ -242,7 +266,10 @@ impl Watch {
 
     /// No node runs any more.
     pub(crate) fn end<R: Wait>(&self, rt: &R) {
-        self.book.lock(rt).has_ended = true;
+        let mut book = self.book.lock(rt);
+        book.events.begin_second();
+        book.has_ended = true;
+        drop(book);
         self.bell.notify_all();
     }
 

@@ -3,7 +3,7 @@ ghost use Rattle.commit_hub.specs.Holders.{begun_by};
 ghost use Rattle.commit_hub.specs.Told.{IsWindow};
 
 use crate::links::Links;
-use commit_hub::{Begun, Hub, Node};
+use commit_hub::{Begun, Hub, NodeLedger};
 use ring_post::{Letter, is_missing};
 use ring_records::Packet;
 use std::sync::Wait;
@@ -13,7 +13,7 @@ use std::time::Clock;
 const AGAIN: usize = 1_024;
 
 /// Sends the packet of this index of the window.
-fn send<A: Node, R: Wait>(
+fn send<A: NodeLedger, R: Wait>(
     rt: &R,
     window: &[Packet],
     begun: &Begun<A>,
@@ -28,7 +28,7 @@ fn send<A: Node, R: Wait>(
 }
 
 /// Sends all that the successor has not credited durably: before the node takes its first input of a run.
-pub(crate) fn send_window<A: Node, R: Wait>(rt: &R, hub: &Hub<A>, links: &Links<'_>) {
+pub(crate) fn send_window<A: NodeLedger, R: Wait>(rt: &R, hub: &Hub<A>, links: &Links<'_>) {
     if let Ok((window, begun)) = hub.window(rt) {
         for index in 0..window.len() {
             send(rt, &window, &begun, index, links);
@@ -37,7 +37,7 @@ pub(crate) fn send_window<A: Node, R: Wait>(rt: &R, hub: &Hub<A>, links: &Links<
 }
 
 /// Sends again what the successor may miss, if anything.
-pub(crate) fn send_what_may_miss<A: Node, R: Wait + Clock>(
+pub(crate) fn send_what_may_miss<A: NodeLedger, R: Wait + Clock>(
     rt: &R,
     hub: &Hub<A>,
     links: &Links<'_>,
@@ -52,7 +52,12 @@ pub(crate) fn send_what_may_miss<A: Node, R: Wait + Clock>(
 
 /// Sends the first messages of the window again that the successor is not known to have; of what it is known to have the node may
 /// not have been told yet.
-fn send_again<A: Node, R: Wait>(rt: &R, window: &[Packet], begun: &Begun<A>, links: &Links<'_>)
+fn send_again<A: NodeLedger, R: Wait>(
+    rt: &R,
+    window: &[Packet],
+    begun: &Begun<A>,
+    links: &Links<'_>,
+)
     requires { IsWindow A.member A.opening (begun_by begun.now) window.now }
 {
     let heard = links.heard();

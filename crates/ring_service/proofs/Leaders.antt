@@ -10,7 +10,8 @@ use Rattle.ring_records.specs.declared.packet.Packet.{Packet}
 use Rattle.ring_records.specs.declared.packet.Packet.TheVariants.{Carry}
 use Rattle.ring_records.specs.declared.reply.Reply.{Reply}
 use Rattle.ring_records.specs.declared.request.Request.{Request}
-use Rattle.ring_records.specs.Admission.{IsAllowed, IsLawful}
+use Rattle.ring_records.specs.Admission.{IsAllowed}
+use Rattle.ring_records.specs.Lawful.{IsLawful}
 use Rattle.ring_records.specs.Answer.{PacketRests}
 use Rattle.ring_records.specs.Leader.{leader}
 use Rattle.ring_records.specs.Lists.{EachAfter}
@@ -28,7 +29,7 @@ use Rattle.node_store.proofs.Left.{allowed_in}
 use Rattle.commit_hub.specs.Tied.{Durable, durable_part}
 use Rattle.commit_hub.specs.Told.{IsBroughtBehind, IsWindowBehind}
 use Rattle.ring_service.specs.Begun.{BeginsBehind}
-use Rattle.ring_service.specs.Leaders.{Life, AreFromReleased, AreLives, IsEarlier, IsNamed, IsReadFrom, IsReleasedBy, IsReplied, Names, history_of}
+use Rattle.ring_service.specs.Leaders.{Life, AreFromReleased, AreLives, IsEarlier, IsNamed, IsReadFrom, MayBeReleasedBy, IsReplied, Names, history_of}
 use Rattle.ring_service.specs.Rounds.{at_rest}
 use Rattle.ring_service.proofs.Begun.{prefix_behind}
 use Rattle.ring_service.proofs.Readers.{LeadsWithin, read_leads, reply_leads}
@@ -37,7 +38,7 @@ use Rattle.ring_service.proofs.Series.{opens_again}
 -- ---- what a node released
 
 pub window_released : (life : Life) (begun : List Input) (list : List Packet) (packet : Packet) → IsPrefix begun life.known.inputs → IsWindowBehind life.member life.past begun list
-    → Contains list packet → IsReleasedBy life packet
+    → Contains list packet → MayBeReleasedBy life packet
 window_released life begun list packet p shown here = record {
   begun = life.past ++ begun;
   begins = prefix_behind life.past begun life.known.inputs p;
@@ -45,7 +46,7 @@ window_released life begun list packet p shown here = record {
 }
 
 pub round_released : (life : Life) (since inputs : List Input) (landed : Landed) (packet : Packet) → IsPrefix (since ++ inputs) life.known.inputs
-    → IsBroughtBehind life.member life.past since inputs landed → Contains landed.packets.items packet → IsReleasedBy life packet
+    → IsBroughtBehind life.member life.past since inputs landed → Contains landed.packets.items packet → MayBeReleasedBy life packet
 round_released life since inputs landed packet p brought here =
     let whole : life.past ++ (since ++ inputs) ≡ (life.past ++ since) ++ inputs = sym (append_assoc life.past since inputs) in
     record {
@@ -54,7 +55,7 @@ round_released life since inputs landed packet p brought here =
       rests = packets-rest life.member.node (life.past ++ since) inputs packet (subst (λ (l : List Packet). Contains l packet) brought.packets here);
     }
 
-pub earlier_released : (was life : Life) (packet : Packet) → IsEarlier was life → IsReleasedBy was packet → IsReleasedBy life packet
+pub earlier_released : (was life : Life) (packet : Packet) → IsEarlier was life → MayBeReleasedBy was packet → MayBeReleasedBy life packet
 earlier_released was life packet earlier is = record {
   begun = is.begun;
   begins = prefix_trans is.begun (history_of was) (history_of life) is.begins earlier.begins;

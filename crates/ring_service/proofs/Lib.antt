@@ -2,6 +2,7 @@ pub mod Begun
 pub mod Commands
 pub mod Contents
 pub mod Keys
+pub mod Launches
 pub mod Leaders
 pub mod Next
 mod Readers

@@ -1,5 +1,5 @@
 -- What a hub launches, and the journal of its flusher takes.
-use Rattle.std.proofs.Common.{◌≡◌, ◌+◌, ◌-◌, ◌≤◌, inl, inr, ℕ, Bool, List, ◌++◌, length, drop, Option, Some, None, refl, sym, ap, ◌∙◌, subst, arith, length-append}
+use Rattle.std.proofs.Common.{◌≡◌, ◌+◌, ◌-◌, ◌≤◌, ℕ, List, ◌++◌, length, drop, Option, Some, None, refl, sym, ap, ◌∙◌, subst, arith, length-append}
 use Rattle.std.proofs.lemmas.List.{drop_all}
 use Rattle.std.proofs.lemmas.Option.{same_Some}
 use Rattle.ring_records.specs.declared.input.Input.{Input}
@@ -17,8 +17,8 @@ use Rattle.commit_hub.specs.Tied.{Durable, with_area, with_batch}
 use Rattle.commit_hub.specs.Works.{flown_by, summary_by, flying_behind, IsLawfulBehind, IsNext}
 use Rattle.group_commit.proofs.Costs.{used-joined}
 use Rattle.group_commit.proofs.KeptInputs.{after-inputs}
-use Rattle.gated_journal.specs.Works.{IsTaken, count_after, epoch_after, layout_after, room_after}
-use Rattle.ring_service.specs.Rounds.{HasKnown, IsMade, IsSpent, known_behind}
+use Rattle.gated_journal.specs.WorkTaken.{IsTaken, count_after, epoch_after, layout_after, room_after}
+use Rattle.ring_service.specs.Rounds.{HasKnown, IsMade, known_behind}
 
 -- a journal that has what is known to be durable takes it
 pub takes : (member : Member) (opening : Summary) (known : Durable) (len room layout epoch : ℕ) (w : Work) → IsNodeOf member.n member.node → HasKnown member opening known len room layout epoch
@@ -85,10 +85,3 @@ has member opening known len room layout epoch (works.Checkpoint made) based bef
       form = ap (λ (o : Option ℕ). layout_after o layout) next.snapshot;
       area = ap (λ (o : Option ℕ). epoch_after o epoch) next.snapshot ∙ ap (λ k. k + 1) before.area;
     }
-
--- it is seen of the journal that it was written
-pub shows : (member : Member) (opening : Summary) (known : Durable) (before area : ℕ) (w : Work) (spoiled : Bool) → (summary_by w ≡ None → 1 ≤ length (flown_by w).inputs)
-    → IsNext member opening known w → IsSpent before (before + length (flown_by w).inputs) area (epoch_after (flown_by w).snapshot area) spoiled
-shows member opening known before area (works.Batch batch) spoiled some next = inr (inl (let count = some refl in omega (arith, count)))
-shows member opening known before area (works.Checkpoint made) spoiled some next =
-    inr (inr (let more = ap (λ (o : Option ℕ). epoch_after o area) next.snapshot in omega (arith, more)))

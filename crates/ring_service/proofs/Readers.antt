@@ -21,7 +21,8 @@ use Rattle.ring_records.specs.declared.request.Request.{Request}
 use Rattle.ring_records.specs.Admission.{retired}
 use Rattle.ring_records.specs.Answer.{Answer, reply, unless}
 use Rattle.ring_records.specs.History.{floor_for}
-use Rattle.ring_records.specs.Leader.{IsLatest, first_leader, latest, leader, told}
+use Rattle.ring_records.specs.Leader.{IsLatest, first_leader, latest, leader}
+use Rattle.ring_records.specs.Decided.{told}
 use Rattle.ring_records.specs.Lists.{first, found_after}
 use Rattle.ring_records.specs.Notices.{first_named, leader_in, leads_in, named_by}
 use Rattle.ring_records.specs.Order.{is_key}

@@ -12,7 +12,8 @@ use Rattle.ring_records.specs.declared.input.Input.TheVariants.{Stand, Take, Ack
 use Rattle.ring_records.specs.declared.notice.Notice.{Notice}
 use Rattle.ring_records.specs.declared.notice.Notice.TheVariants.{Decided}
 use Rattle.ring_records.specs.declared.summary.Summary.{Summary}
-use Rattle.ring_records.specs.Leader.{decided, first_leader, told}
+use Rattle.ring_records.specs.Leader.{first_leader}
+use Rattle.ring_records.specs.Decided.{decided, told}
 use Rattle.ring_records.specs.Lists.{found_after}
 use Rattle.ring_records.specs.Member.{Member}
 use Rattle.ring_records.specs.Release.{notices}

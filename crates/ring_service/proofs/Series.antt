@@ -11,7 +11,8 @@ use Rattle.ring_records.specs.Admission.{newest}
 use Rattle.ring_records.specs.Known.{after}
 use Rattle.ring_records.specs.Lists.{EachAfter}
 use Rattle.ring_records.specs.Member.{Member}
-use Rattle.ring_records.specs.States.{NodeState, IsNodeState, IsLawfulState, durable_in, flown_in, landed, launched_base, left_by, opened}
+use Rattle.ring_records.specs.States.{NodeState, durable_in, flown_in, landed, launched_base, left_by, opened}
+use Rattle.ring_records.specs.Lawful.{IsNodeState, IsLawfulState}
 use Rattle.ring_records.proofs.Growth.{EachAfter-front}
 use Rattle.ring_records.proofs.Lists.{EachAfter-push, none≢some}
 use Rattle.ring_records.proofs.States.{lawful-landed, lawful-left}

@@ -6,8 +6,8 @@ use Rattle.ring_records.specs.declared.notice.Notice.{Notice}
 use Rattle.gated_journal.specs.Journal.{device_of}
 use Rattle.gated_journal.specs.declared.journal.Journal.{Journal}
 use Rattle.decision_board.specs.Boards.{BoardView, published, pending, in_rounds}
-use Rattle.commit_hub.specs.declared.ledgers.Node as node
-use Rattle.commit_hub.specs.Holders.{known_by}
+use Rattle.commit_hub.specs.declared.ledgers.NodeLedger as node
+use Rattle.commit_hub.specs.Holders.{known_by, view_by}
 use Rattle.commit_hub.specs.Tied.{Durable}
 use Rattle.ring_service.specs.declared.flusher.Flusher.{Flusher}
 
@@ -38,6 +38,10 @@ module _ {V J A : Type 0} {v : device.Ghosts V} {a : node.Ghosts A} {la : ledger
   abbrev pub is_published : Flusher V J A v a la → Bool
   is_published flusher = flusher.is_published
 
-  -- the device failed with one of its batches, or the hub refused one
+  -- it has seen its hub closed, with all that it accepted durable
+  abbrev pub is_done : Flusher V J A v a la → Bool
+  is_done flusher = (view_by flusher.tie).done
+
+  -- the device failed with one of its batches, or it goes on no more
   abbrev pub has_ended : Flusher V J A v a la → Bool
   has_ended flusher = flusher.has_ended

@@ -53,7 +53,7 @@ abbrev pub AreLives : ℕ → (ℕ → Life) → Type 0
 AreLives n lives = (i : ℕ) → 1 ≤ i → i ≤ n → IsLife n i (lives i)
 
 -- a packet that the node may have released: it rests on a beginning of its durable inputs
-pub record IsReleasedBy (life : Life) (packet : Packet) : Type 0 where
+pub record MayBeReleasedBy (life : Life) (packet : Packet) : Type 0 where
   pub begun : List Input
   pub begins : IsPrefix begun (history_of life)
   pub rests : PacketRests life.member.node begun packet
@@ -61,7 +61,7 @@ pub record IsReleasedBy (life : Life) (packet : Packet) : Type 0 where
 -- Each message that a node took came in a packet that the node before had released, and names a node, counted from 1.
 pub record AreFromReleased (n : ℕ) (lives : ℕ → Life) : Type 0 where
   pub named : (i : ℕ) (m : Msg) → 1 ≤ i → i ≤ n → Contains (taken (history_of (lives i))) m → 1 ≤ (candidate_of m).node
-  pub handed : (i msg_no : ℕ) (m : Msg) → 1 ≤ i → i ≤ n → Contains (history_of (lives i)) (Take msg_no m) → IsReleasedBy (lives (before n i)) (Carry msg_no m)
+  pub handed : (i msg_no : ℕ) (m : Msg) → 1 ≤ i → i ≤ n → Contains (history_of (lives i)) (Take msg_no m) → MayBeReleasedBy (lives (before n i)) (Carry msg_no m)
 
 -- An earlier moment of a life, or of an earlier life of the same node: what was durable then is how all begins.
 pub record IsEarlier (was life : Life) : Type 0 where

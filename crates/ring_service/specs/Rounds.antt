@@ -76,10 +76,6 @@ pub record HasKnown (member : Member) (opening : Summary) (known : Durable) (len
 
 -- ---- refusals
 
--- something was written to a journal that had so many inputs, or the device failed with it
-abbrev pub IsSpent : ℕ → ℕ → ℕ → ℕ → Bool → Type 0
-IsSpent before now epoch_before epoch_now spoiled = (spoiled ≡ true) ⊎ ((before < now) ⊎ (epoch_before < epoch_now))
-
--- nothing was launched: a growth was refused, the flusher has ended or the hub has failed, or something flies
+-- nothing was launched: a growth was refused, or the flusher has ended
 abbrev pub IsIdle : Refusal → Type 0
-IsIdle why = (why ≡ refused.OutOfMemory) ⊎ ((why ≡ refused.Failed) ⊎ (why ≡ refused.Busy))
+IsIdle why = (why ≡ refused.OutOfMemory) ⊎ (why ≡ refused.Failed)

@@ -12,7 +12,8 @@ use Rattle.ring_records.specs.Leader.{first_leader}
 use Rattle.ring_records.specs.Lists.{EachAfter}
 use Rattle.ring_records.specs.Member.{Member}
 use Rattle.ring_records.specs.Release.{packets, notices}
-use Rattle.ring_records.specs.States.{NodeState, IsNodeState, left_by}
+use Rattle.ring_records.specs.States.{NodeState, left_by}
+use Rattle.ring_records.specs.Lawful.{IsNodeState}
 use Rattle.gated_journal.specs.Areas.{AllReadAs}
 use Rattle.gated_journal.specs.Reading.{Reading}
 use Rattle.group_commit.specs.declared.landed.Landed.{Landed}

@@ -19,7 +19,7 @@ use Rattle.group_commit.specs.Desk.{IsAnswer}
 use Rattle.group_commit.specs.Past.{IsPast}
 use Rattle.decision_board.specs.Boards.{seen, learned}
 use Rattle.commit_hub.specs.Holders.{begun_by, count_of}
-use Rattle.commit_hub.specs.declared.ledgers.Node as node
+use Rattle.commit_hub.specs.declared.ledgers.NodeLedger as node
 use Rattle.commit_hub.specs.declared.share.Begun.{Begun}
 use Rattle.commit_hub.specs.declared.share.Share.{Share}
 use Rattle.sessions.specs.Session.{Answer}

@@ -4,7 +4,7 @@ ghost use Rattle.ring_records.specs.declared.reply.Reply.TheVariants as replied;
 ghost use Rattle.ring_records.specs.declared.request.Request.TheVariants as ask;
 ghost use Rattle.ring_service.specs.Entry.{EntryAnswers, IsAsked, latest_in, objection_to};
 
-use commit_hub::{Hub, Look, Node};
+use commit_hub::{Hub, Look, NodeLedger};
 use ring_records::{Bid, GroupName, Key, Refusal, Reply, Term};
 use sessions::Service;
 use std::sync::Wait;
@@ -14,7 +14,7 @@ use std::sync::Wait;
 /// messages would leave less than the reserve free behind a checkpoint. What the hub refuses as 7 is asked once more, behind
 /// the checkpoint that the refusal wanted.
 #[derive(Drop)]
-pub struct EntryService<'a, R, A: Node, S: Service> {
+pub struct EntryService<'a, R, A: NodeLedger, S: Service> {
     rt: &'a R,
     hub: &'a Hub<A>,
     leap: u32,
@@ -68,7 +68,7 @@ pub fn is_for_room(answer: &Result<Reply, Refusal>) -> bool
     matches!(answer, Ok(Reply::Refused(Refusal::Full)))
 }
 
-impl<'a, R, A: Node, S: Service> EntryService<'a, R, A, S> {
+impl<'a, R, A: NodeLedger, S: Service> EntryService<'a, R, A, S> {
     /// In front of this service of the hub.
     pub fn new(rt: &'a R, hub: &'a Hub<A>, leap: u32, service: S) -> EntryService<'a, R, A, S>
         requires { leap ≤ 999999999 }
@@ -91,7 +91,7 @@ impl<'a, R, A: Node, S: Service> EntryService<'a, R, A, S> {
     }
 }
 
-impl<'a, R: Wait, A: Node, S: Service> EntryService<'a, R, A, S> {
+impl<'a, R: Wait, A: NodeLedger, S: Service> EntryService<'a, R, A, S> {
     // Asks to stand, once more behind a refusal for room.
     fn ask_to_stand(&mut self, key: &Key, bid: &Bid) -> Result<Reply, Refusal>
         ensures asked { IsAsked S.answers self.old.service (ask.Stand key.now bid.now) result self.new.service }
@@ -106,7 +106,7 @@ impl<'a, R: Wait, A: Node, S: Service> EntryService<'a, R, A, S> {
     }
 }
 
-impl<'a, R: Wait, A: Node, S: Service> Service for EntryService<'a, R, A, S> {
+impl<'a, R: Wait, A: NodeLedger, S: Service> Service for EntryService<'a, R, A, S> {
     ghost answers = { λ before asked answer after. (after.leap ≡ before.leap) × EntryAnswers S.answers A.member A.opening before.leap before.service asked answer after.service };
 
     fn stand(&mut self, key: Key, bid: Bid) -> Result<Reply, Refusal> {

@@ -1,5 +1,5 @@
 //! The flusher's end of a hub.
-ghost use Rattle.std.specs.Prelude.{◌≡◌, ◌+◌, ◌-◌, ◌<◌, ◌≤◌, ◌⊎◌, ◌++◌, [], true, false, is_err, is_some, length, IfOk, IfErr, IfSome, IfNone, IsErrOf, OnErr, OnOk};
+ghost use Rattle.std.specs.Prelude.{◌≡◌, ◌+◌, ◌-◌, ◌<◌, ◌≤◌, ◌⊎◌, ◌++◌, [], true, false, None, is_err, is_some, length, IfOk, IfErr, IfSome, IfNone, IsOk, IsErrOf, OnErr, OnOk};
 ghost use mathlib.Core.List.{IsPrefix};
 ghost use Rattle.disk_model.specs.Disk.{LeavesOnly, Reaches};
 ghost use Rattle.gated_journal.specs.Areas.{AllReadAs, ReadsAsOneOf};
@@ -9,15 +9,15 @@ ghost use Rattle.gated_journal.specs.Reading.{Reading, device_size};
 ghost use Rattle.gated_journal.specs.Unread.{IsFault};
 ghost use Rattle.gated_journal.specs.Works.{reading_after};
 ghost use Rattle.decision_board.specs.Boards.{published, pending, refusals, in_rounds, LackedMemory};
-ghost use Rattle.commit_hub.specs.Holders.{begun_by, known_by};
+ghost use Rattle.commit_hub.specs.Holders.{begun_by, known_by, objection_to, view_by};
 ghost use Rattle.commit_hub.specs.Told.{IsBrought};
 ghost use Rattle.commit_hub.specs.Works.{flown_by, summary_by, IsNext};
 ghost use Rattle.node_core.specs.Core.{IsNodeOf};
-ghost use Rattle.ring_service.specs.Rounds.{IsRound, IsStopped, IsIdle, IsSpent, HasKnown, known_behind};
+ghost use Rattle.ring_service.specs.Rounds.{IsRound, IsStopped, IsIdle, HasKnown, known_behind};
 ghost use Rattle.ring_service.specs.Props.{HasKnown-prop};
 
 use crate::gate::Gate;
-use commit_hub::{Begun, Hub, Node, Tie, Work};
+use commit_hub::{Begun, Hub, NodeLedger, Tie, Work};
 use decision_board::{Board, Naming, Owed, Told};
 use disk_model::{Device, SystemFault};
 use gated_journal::Journal;
@@ -29,7 +29,7 @@ use std::sync::Wait;
 
 /// The journal and the tie of a hub's node, the board that is told its notices, and those that the board could not take
 /// yet.
-pub struct Flusher<V: Device, J: Naming, A: Node> {
+pub struct Flusher<V: Device, J: Naming, A: NodeLedger> {
     journal: Journal<V>,
     tie: Tie<A>,
     board: Board<J>,
@@ -39,18 +39,20 @@ pub struct Flusher<V: Device, J: Naming, A: Node> {
     ghost inside: { IsNodeOf A.member.n A.member.node },
     ghost shown: { is_published ≡ true → pending board ≡ [] },
     ghost ready: { has_ended ≡ false → is_spoiled journal ≡ false },
+    ghost free: { has_ended ≡ false → objection_to tie ≡ None },
     ghost member: { has_ended ≡ false → member_of journal ≡ A.member },
     ghost known: { has_ended ≡ false → HasKnown A.member A.opening (known_by tie) (len_of journal) (room_of journal) (layout_of journal) (journal_epoch journal) } by { HasKnown-prop has_ended A.member A.opening (known_by tie) (len_of journal) (room_of journal) (layout_of journal) (journal_epoch journal) },
 }
 
-impl<V: Device, J: Naming, A: Node> Flusher<V, J, A> {
-    ghost use Rattle.ring_service.specs.Flushers.{journal_of, device_in, known_to, board_of, owed_of, told_to, is_published, has_ended};
+impl<V: Device, J: Naming, A: NodeLedger> Flusher<V, J, A> {
+    ghost use Rattle.ring_service.specs.Flushers.{journal_of, device_in, known_to, board_of, owed_of, told_to, is_published, is_done, has_ended};
 
     /// A flusher that owes nothing. The journal is that of the node of the tie's hub, is not spoiled, and has what the
-    /// tie knows.
+    /// tie knows. By the tie nothing flies, and the hub has not failed.
     pub fn new(alloc: Global, journal: Journal<V>, board: Board<J>, tie: Tie<A>) -> Flusher<V, J, A>
         requires inside { IsNodeOf A.member.n A.member.node }
         requires ready { is_spoiled journal ≡ false }
+        requires free { objection_to tie ≡ None }
         requires member { member_of journal ≡ A.member }
         requires known { HasKnown A.member A.opening (known_by tie) (len_of journal) (room_of journal) (layout_of journal) (journal_epoch journal) }
         ensures journal { journal_of result ≡ journal }
@@ -78,9 +80,8 @@ impl<V: Device, J: Naming, A: Node> Flusher<V, J, A> {
     /// checkpoint where one is due, and publishes the leaders that they make known. Tells what it made durable; `None` once
     /// the hub is closed and nothing waits.
     ///
-    /// Refused as 8, 9 or 12, nothing was launched: a growth was refused; the flusher has ended or the hub has failed;
-    /// something flies. Refused as 15, the device failed, and as 10, the hub refused what came of it, which is ended.
-    /// After 15 and 10 the flusher has ended. Notices that the board cannot take for memory stay owed, and go first in
+    /// Refused as 8 or 9, nothing was launched: a growth was refused; the flusher has ended. Refused as 15, the device failed.
+    /// After 15 the flusher has ended. Notices that the board cannot take for memory stay owed, and go first in
     /// the next round; all that it took is published, but for want of memory, of which `is_published` tells. Behind a
     /// round in which the board was refused no growth nothing is owed, and all is published.
     pub fn flush_round<R: Wait, G: Gate>(
@@ -98,21 +99,21 @@ impl<V: Device, J: Naming, A: Node> Flusher<V, J, A> {
             ⊎ ((is_published self.new ≡ true) × (pending (board_of self.new) ≡ []) × (owed_of self.new ≡ [])))) }
         ensures refusals { refusals (board_of self.old) ≤ refusals (board_of self.new) }
         ensures none { IfOk result (λ some. IfNone some ((journal_of self.new ≡ journal_of self.old) × (known_to self.new ≡ known_to self.old))) }
+        ensures done { IfOk result (λ some. IfNone some (is_done self.new ≡ true)) }
         ensures kept { IfOk result (λ some. IfNone some (told_to self.new ≡ told_to self.old)) }
 
         // Refused, no notice is lost.
-        ensures refusal { IfErr result (λ why. IsIdle why ⊎ (IsFault (V.count (device_in self.old)) (V.count (device_in self.new)) why ⊎ (why ≡ Refusal.Foreign))) }
+        ensures refusal { IfErr result (λ why. IsIdle why ⊎ IsFault (V.count (device_in self.old)) (V.count (device_in self.new)) why) }
         ensures idle { IfErr result (λ why. IsIdle why → (journal_of self.new ≡ journal_of self.old) × (known_to self.new ≡ known_to self.old)) }
         ensures spoiled { IfErr result (λ why. IsFault (V.count (device_in self.old)) (V.count (device_in self.new)) why → is_spoiled (journal_of self.new) ≡ true) }
-        ensures foreign { IfErr result (λ why. why ≡ Refusal.Foreign
-            → IsSpent (len_of (journal_of self.old)) (len_of (journal_of self.new)) (journal_epoch (journal_of self.old)) (journal_epoch (journal_of self.new)) (is_spoiled (journal_of self.new))) }
         ensures same { OnErr result (told_to self.new ≡ told_to self.old) }
-        ensures in_reach { Reaches (V.reach (device_in self.old)) (device_size A.member.capacity) → IfErr result (λ why. IsIdle why ⊎ (why ≡ Refusal.Foreign)) }
+        ensures in_reach { Reaches (V.reach (device_in self.old)) (device_size A.member.capacity) → IfErr result IsIdle }
 
-        // It ends where what was written did not land, and answers 9 then.
+        // It ends where the device failed, and answers 9 then, and only then.
         ensures ends { IfErr result (λ why. IsIdle why ⊎ (has_ended self.new ≡ true)) }
         ensures goes_on { OnOk result (has_ended self.new ≡ false) }
         ensures ended { has_ended self.old ≡ true → IsErrOf result Refusal.Failed }
+        ensures failed { IfErr result (λ why. why ≡ Refusal.Failed → has_ended self.old ≡ true) }
 
         // A stop at any moment leaves what the journal read as, or what it reads as behind the round.
         ensures any_moment { has_ended self.old ≡ false → (r : Reading) → AllReadAs A.member (V.disk (device_in self.old)) r
@@ -182,6 +183,19 @@ impl<V: Device, J: Naming, A: Node> Flusher<V, J, A> {
         self.board.covers(told);
     }
 
+    /// Goes on no more, as after a failure of the device: it has ended, and nothing more of its hub becomes durable.
+    pub fn abandon<R: Wait>(&mut self, rt: &R, hub: &Hub<A>)
+        ensures known { known_to self.new ≡ known_to self.old }
+        ensures journal { journal_of self.new ≡ journal_of self.old }
+        ensures board { board_of self.new ≡ board_of self.old }
+        ensures owed { owed_of self.new ≡ owed_of self.old }
+        ensures is_published { is_published self.new ≡ is_published self.old }
+        ensures has_ended { has_ended self.new ≡ true }
+    {
+        self.has_ended = true;
+        hub.abandon(rt, &mut self.tie);
+    }
+
     /// Has the hub of its tie let go of the inputs that the area of the journal in use stands for.
     pub fn let_go<R: Wait>(&self, rt: &R, hub: &Hub<A>) {
         hub.let_go(rt);
@@ -221,8 +235,8 @@ impl<V: Device, J: Naming, A: Node> Flusher<V, J, A> {
     }
 }
 
-/// Makes it durable, and tells the hub what became of it. What the hub refuses is ended.
-fn settle<V: Device, A: Node, R: Wait>(
+/// Makes it durable, and tells the hub what became of it. By the tie it flies, so the hub refuses neither.
+fn settle<V: Device, A: NodeLedger, R: Wait>(
     rt: &R,
     hub: &Hub<A>,
     journal: &mut Journal<V>,
@@ -233,6 +247,8 @@ fn settle<V: Device, A: Node, R: Wait>(
     requires member { member_of journal.old ≡ A.member }
     requires inside { IsNodeOf A.member.n A.member.node }
     requires next { IsNext A.member A.opening (known_by tie.old) work }
+    requires flies { (view_by tie.old).flying ≡ flown_by work }
+    requires works { (view_by tie.old).failed ≡ false }
     requires based { (known_by tie.old).base.inputs ≤ length (known_by tie.old).inputs }
     requires known { HasKnown A.member A.opening (known_by tie.old) (len_of journal.old) (room_of journal.old) (layout_of journal.old) (journal_epoch journal.old) }
     ensures count { IfOk result (λ landed. landed.count ≡ length (flown_by work).inputs) }
@@ -245,10 +261,10 @@ fn settle<V: Device, A: Node, R: Wait>(
     ensures member { member_of journal.new ≡ A.member }
     ensures next { OnOk result (known_by tie.new ≡ known_behind (summary_by work) (flown_by work).inputs (known_by tie.old)) }
     ensures known { OnOk result (HasKnown A.member A.opening (known_by tie.new) (len_of journal.new) (room_of journal.new) (layout_of journal.new) (journal_epoch journal.new)) }
-    ensures refusal { IfErr result (λ why. IsFault (V.count (device_of journal.old)) (V.count (device_of journal.new)) why ⊎ (why ≡ Refusal.Foreign)) }
-    ensures spoiled { IfErr result (λ why. IsFault (V.count (device_of journal.old)) (V.count (device_of journal.new)) why → is_spoiled journal.new ≡ true) }
-    ensures foreign { IfErr result (λ why. why ≡ Refusal.Foreign → IsSpent (len_of journal.old) (len_of journal.new) (journal_epoch journal.old) (journal_epoch journal.new) (is_spoiled journal.new)) }
-    ensures in_reach { Reaches (V.reach (device_of journal.old)) (device_size A.member.capacity) → IfErr result (λ why. why ≡ Refusal.Foreign) }
+    ensures free { OnOk result (objection_to tie.new ≡ None) }
+    ensures refusal { IfErr result (IsFault (V.count (device_of journal.old)) (V.count (device_of journal.new))) }
+    ensures spoiled { OnErr result (is_spoiled journal.new ≡ true) }
+    ensures in_reach { Reaches (V.reach (device_of journal.old)) (device_size A.member.capacity) → IsOk result }
     ensures any_moment { (r : Reading) → AllReadAs (member_of journal.old) (V.disk (device_of journal.old)) r
         → LeavesOnly V.clock V.left_since (device_of journal.old) (device_of journal.new)
         (ReadsAsOneOf (member_of journal.old) r (reading_after (journal_epoch journal.old) (summary_by work) (flown_by work).inputs r)) }
@@ -256,17 +272,11 @@ fn settle<V: Device, A: Node, R: Wait>(
     match journal.write(work) {
         Ok(receipt) => match hub.land(rt, tie, receipt) {
             Ok(landed) => Ok(landed),
-            Err((receipt, refusal)) => {
-                receipt.into_parts();
-                Err(refusal)
-            }
+            Err(_) => unreachable!(),
         },
         Err(spoiled) => match hub.fail(rt, tie, spoiled) {
             Ok(()) => Err(Refusal::Device(journal.failures())),
-            Err((spoiled, refusal)) => {
-                spoiled.into_parts();
-                Err(refusal)
-            }
+            Err(_) => unreachable!(),
         },
     }
 }

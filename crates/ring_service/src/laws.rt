@@ -19,7 +19,8 @@ ghost use Rattle.ring_records.specs.Leader.{IsLatest, first_leader, leader};
 ghost use Rattle.ring_records.specs.Lists.{EachAfter};
 ghost use Rattle.ring_records.specs.Notices.{floor_in, leader_in, leads_in, IsNotBelow};
 ghost use Rattle.ring_records.specs.Order.{is_less};
-ghost use Rattle.ring_records.specs.States.{NodeState, IsLawfulState, durable_in, left_by};
+ghost use Rattle.ring_records.specs.States.{NodeState, durable_in, left_by};
+ghost use Rattle.ring_records.specs.Lawful.{IsLawfulState};
 ghost use Rattle.gated_journal.specs.Areas.{AllReadAs};
 ghost use Rattle.gated_journal.specs.Reading.{Reading};
 ghost use Rattle.group_commit.specs.declared.landed.Landed.{Landed};
@@ -30,19 +31,19 @@ ghost use Rattle.node_store.specs.State.{Holds, IsOpenedAs};
 ghost use Rattle.commit_hub.specs.Tied.{Durable, durable_part};
 ghost use Rattle.commit_hub.specs.Told.{IsBroughtBehind, IsWindowBehind};
 ghost use Rattle.ring_service.specs.Begun.{Begins, BeginsBehind};
-ghost use Rattle.ring_service.specs.Leaders.{Life, AreFromReleased, AreLives, IsEarlier, IsNamed, IsReleasedBy, IsTold, history_of};
+ghost use Rattle.ring_service.specs.Leaders.{Life, AreFromReleased, AreLives, IsEarlier, IsNamed, MayBeReleasedBy, IsTold, history_of};
 ghost use Rattle.ring_service.specs.Restarts.{AreLater, UnlessRetired};
 ghost use Rattle.ring_service.specs.Rounds.{IsRound, IsStopped, at_rest, known_behind};
 ghost use Rattle.ring_service.specs.Series.{Round, AreRounds, IsCut, IsHeld, IsLeftBehind, IsRoundOf, IsSplit, RestsOn, device_behind, inputs_of, known_since};
 
-use commit_hub::Node;
+use commit_hub::NodeLedger;
 use disk_model::Device;
 
 /// The rounds of a flusher, from what `Node::split` gives on: the journal holds the durable inputs then, and the hub's tie
 /// knows them. Each round that `Flusher::flush_round` tells of is one more; what is known to be durable are the inputs at
 /// first, and those of the rounds in order. After a stop it begins so again: the inputs that the new opening stands for
 /// and those behind it are all that was left.
-pub fn rounds_of_a_flusher<V: Device, A: Node>()
+pub fn rounds_of_a_flusher<V: Device, A: NodeLedger>()
     ensures begins { (desk : DeskKept) (device : V) → IsSplit desk (V.disk device) → IsHeld desk.view.member desk.opening (V.disk device) (durable_part desk) }
     ensures told { (old new : V) (before behind : Durable) (landed : Landed) → IsRound V.disk V.clock V.left_since A.member A.opening old new before behind landed
         → (round : Round V) × (IsRoundOf V.disk V.clock V.left_since A.member A.opening old before round × ((round.device ≡ new) × (known_behind round.base round.inputs before ≡ behind))) }
@@ -61,7 +62,7 @@ pub fn rounds_of_a_flusher<V: Device, A: Node>()
 /// so for the first of them, so many; and within a round that did not end, also with the inputs that fly. All this is
 /// lawful behind each past that the opening is of: the whole list is the past, the inputs at first, and those of the
 /// rounds.
-pub fn left_by_a_flusher<V: Device, A: Node>()
+pub fn left_by_a_flusher<V: Device, A: NodeLedger>()
     ensures held { (device : V) (known : Durable) (rounds : List (Round V)) → IsHeld A.member A.opening (V.disk device) known
         → AreRounds V.disk V.clock V.left_since A.member A.opening device known rounds → IsHeld A.member A.opening (V.disk (device_behind device rounds)) (known_since known rounds) }
     ensures recovery { (device : V) (known : Durable) → IsHeld A.member A.opening (V.disk device) known → (past : List Input) → IsPast A.member A.opening past
@@ -76,7 +77,7 @@ pub fn left_by_a_flusher<V: Device, A: Node>()
 
 /// What a round let its node release, packets and leaders, rests on inputs that the next start holds, whenever a stop comes
 /// behind the round: between rounds, within one, or within one that did not end.
-pub fn released_by_a_flusher<V: Device, A: Node>()
+pub fn released_by_a_flusher<V: Device, A: NodeLedger>()
     ensures rounds { (device : V) (known : Durable) (before later : List (Round V)) (round : Round V) → IsHeld A.member A.opening (V.disk device) known
         → AreRounds V.disk V.clock V.left_since A.member A.opening device known (before ++ round ∷ later)
         → LeavesOnly V.clock V.left_since round.device (device_behind device (before ++ round ∷ later)) (RestsOn A.member A.opening (known_since known before) round) }
@@ -91,7 +92,7 @@ pub fn released_by_a_flusher<V: Device, A: Node>()
 /// not end. A token that begins what is known later began it as soon as so many inputs were known: the flusher need not be
 /// asked between. So a reply that rests on them is one that the history gives which the next start holds, and each packet of
 /// a window rests on that.
-pub fn told_by_a_flusher<V: Device, A: Node>()
+pub fn told_by_a_flusher<V: Device, A: NodeLedger>()
     ensures rounds { (device : V) (known : Durable) (before later : List (Round V)) (begun : List Input) → IsHeld A.member A.opening (V.disk device) known
         → AreRounds V.disk V.clock V.left_since A.member A.opening device known (before ++ later) → IsPrefix begun (known_since known before).inputs
         → LeavesOnly V.clock V.left_since (device_behind device before) (device_behind device (before ++ later)) (Begins A.member A.opening begun) }
@@ -110,10 +111,10 @@ pub fn told_by_a_flusher<V: Device, A: Node>()
 /// comes to know more inputs and forgets none, and in each later life, since what a stop leaves begins with all of them.
 pub fn released_by_a_life()
     ensures window { (life : Life) (begun : List Input) (list : List Packet) (packet : Packet) → IsPrefix begun life.known.inputs
-        → IsWindowBehind life.member life.past begun list → Contains list packet → IsReleasedBy life packet }
+        → IsWindowBehind life.member life.past begun list → Contains list packet → MayBeReleasedBy life packet }
     ensures round { (life : Life) (since inputs : List Input) (landed : Landed) (packet : Packet) → IsPrefix (since ++ inputs) life.known.inputs
-        → IsBroughtBehind life.member life.past since inputs landed → Contains landed.packets.items packet → IsReleasedBy life packet }
-    ensures earlier { (was life : Life) (packet : Packet) → IsEarlier was life → IsReleasedBy was packet → IsReleasedBy life packet }
+        → IsBroughtBehind life.member life.past since inputs landed → Contains landed.packets.items packet → MayBeReleasedBy life packet }
+    ensures earlier { (was life : Life) (packet : Packet) → IsEarlier was life → MayBeReleasedBy was packet → MayBeReleasedBy life packet }
     ensures goes_on { (life : Life) (known : Durable) → IsPrefix life.known.inputs known.inputs → IsEarlier life (record life { known = known }) }
     ensures again { (life : Life) (image : List ℕ) (run : ℕ) (keep : Bool) (desk : DeskKept) (left : BeginsBehind life.member life.past life.known.inputs image)
         → IsOpenedAs life.member run (left_by keep left.state) desk

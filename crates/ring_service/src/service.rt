@@ -3,7 +3,7 @@ ghost use Rattle.std.specs.Prelude.{◌≡◌, false, Some, None, is_some, IfErr
 ghost use Rattle.ring_records.specs.Message.{is_outside};
 ghost use Rattle.decision_board.specs.Boards.{seen};
 
-use commit_hub::{Begun, Hub, Node, Share};
+use commit_hub::{Begun, Hub, NodeLedger, Share};
 use decision_board::{BoardReader, Naming, Told};
 use group_commit::Stub;
 use ring_records::{Bid, GroupName, Key, Refusal, Reply, Request, Term};
@@ -14,7 +14,7 @@ use std::sync::Wait;
 /// until the reply is released; it reads leaders from the board, whose reads take no handle to wait. A Stand and a Retire
 /// are refused as 9 where the hub is closed or has failed, as 6 and as 8; a read as 20 after the board's end.
 #[derive(Drop)]
-pub struct HubService<'a, R, J: Naming, A: Node> {
+pub struct HubService<'a, R, J: Naming, A: NodeLedger> {
     rt: &'a R,
     hub: &'a Hub<A>,
     share: Share<A>,
@@ -22,7 +22,7 @@ pub struct HubService<'a, R, J: Naming, A: Node> {
     last: Option<(Stub, Begun<A>)>,
 }
 
-impl<'a, R, J: Naming, A: Node> HubService<'a, R, J, A> {
+impl<'a, R, J: Naming, A: NodeLedger> HubService<'a, R, J, A> {
     ghost use Rattle.ring_service.specs.Services.{share_of, reader_of, last_of, begun_of, stub_in, begun_in};
 
     /// A service that has released nothing yet.
@@ -81,7 +81,7 @@ impl<'a, R, J: Naming, A: Node> HubService<'a, R, J, A> {
     }
 }
 
-impl<'a, R: Wait, J: Naming, A: Node> HubService<'a, R, J, A> {
+impl<'a, R: Wait, J: Naming, A: NodeLedger> HubService<'a, R, J, A> {
     ghost use Rattle.ring_service.specs.Services.{IsReleased, IsUnreleased};
 
     // Asks the hub for what is no question for leaders, and waits.
@@ -106,7 +106,7 @@ impl<'a, R: Wait, J: Naming, A: Node> HubService<'a, R, J, A> {
     }
 }
 
-impl<'a, R: Wait, J: Naming, A: Node> Service for HubService<'a, R, J, A> {
+impl<'a, R: Wait, J: Naming, A: NodeLedger> Service for HubService<'a, R, J, A> {
     ghost use Rattle.ring_service.specs.Services.{HubAnswers};
 
     ghost answers = { HubAnswers A.member A.opening };

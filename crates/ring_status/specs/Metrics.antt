@@ -1,5 +1,5 @@
 -- The text for Prometheus.
-use Rattle.std.specs.Prelude.{ℕ, if◌then◌else◌, List, [], ◌∷◌, ◌++◌, codes, Option, Some, None}
+use Rattle.std.specs.Prelude.{ℕ, if◌then◌else◌, List, [], ◌∷◌, ◌++◌, codes, Option, Some, None, option_map}
 use Rattle.std.specs.Fmt.{decimal}
 use Rattle.std.specs.List.{flat_map}
 use Rattle.ring_records.specs.declared.limits.TheConstants.{LAYOUT}
@@ -12,6 +12,7 @@ use Rattle.ring_status.specs.declared.values.Condition.{Condition}
 use Rattle.ring_status.specs.declared.values.Condition.TheVariants.{Well, Limit, Full, Hangs, Failed}
 use Rattle.ring_status.specs.declared.values.NodeStatus.{NodeStatus}
 use Rattle.ring_status.specs.declared.values.RefusalCount.{RefusalCount}
+use Rattle.ring_status.specs.declared.values.RingStatus.{RingStatus}
 use Rattle.ring_status.specs.declared.values.WithinCount.{WithinCount}
 
 -- ---- what is measured
@@ -302,3 +303,15 @@ program_families version ring started process =
 unfoldable pub metrics_body : List ℕ → Option (List ℕ) → ℕ → Process → List NodeStatus → List ℕ
 metrics_body version ring started process nodes =
     program_families version ring started process ++ flat_map (family_of nodes) metrics ++ commits_family nodes ++ refusals_family nodes
+
+-- a ring's identity, where it has one
+abbrev pub identity_of : RingStatus → Option (List ℕ)
+identity_of ring = option_map (λ text. text.now) ring.ring
+
+-- what is told of a ring's program
+abbrev pub program_told : RingStatus → Process → List ℕ
+program_told ring process = program_families (ring.version).now (identity_of ring) ring.started process
+
+-- what is told of a ring and of its program
+abbrev pub metrics_told : RingStatus → Process → List ℕ
+metrics_told ring process = metrics_body (ring.version).now (identity_of ring) ring.started process (ring.nodes).now

@@ -1,8 +1,8 @@
 // The text for Prometheus.
 ghost use Rattle.std.specs.Prelude.{◌≡◌, ◌++◌, IfOk, OnOk, option_map, string_bytes};
 ghost use Rattle.std.specs.List.{flat_map};
-ghost use Rattle.ring_status.specs.Metrics.{begun_family, gauge_of, max_family, open_family, process_families, process_family, program_families, resident_family, value_line};
-ghost use Rattle.ring_status.specs.Metrics.{bucket, commit_count, commit_samples, commit_sum, commit_totals, commits_family, commits_head, family_of, head_of, identity_family, identity_sample, metrics_body, refusal_sample, refusal_samples, refusals_family, refusals_head, sample, layout_label, started_family, version_family, version_start, within_sample};
+ghost use Rattle.ring_status.specs.Metrics.{begun_family, gauge_of, max_family, open_family, process_families, process_family, program_told, resident_family, value_line};
+ghost use Rattle.ring_status.specs.Metrics.{bucket, commit_count, commit_samples, commit_sum, commit_totals, commits_family, commits_head, family_of, head_of, identity_family, identity_sample, metrics_told, refusal_sample, refusal_samples, refusals_family, refusals_head, sample, layout_label, started_family, version_family, version_start, within_sample};
 
 use crate::metric::Metric;
 use crate::process::Process;
@@ -242,7 +242,7 @@ fn print_program(
     ring: &RingStatus<'_>,
     process: &Process,
 ) -> Result<(), AllocError>
-    ensures { OnOk result (string_bytes out.new ≡ string_bytes out.old ++ program_families (ring.now.version).now (option_map (λ text. text.now) ring.now.ring) ring.now.started process.now) }
+    ensures { OnOk result (string_bytes out.new ≡ string_bytes out.old ++ program_told ring.now process.now) }
 {
     print_version(out, ring.version, LAYOUT)?;
     print_identity(out, ring.ring)?;
@@ -358,7 +358,7 @@ fn print_commits_family(out: &mut String, nodes: &[NodeStatus]) -> Result<(), Al
 
 #[tactic(auto, using(crate::proofs::Appends::four), unfolding(crate::specs::Metrics::metrics_body))]
 fn print_all(out: &mut String, ring: &RingStatus<'_>, process: &Process) -> Result<(), AllocError>
-    ensures { OnOk result (string_bytes out.new ≡ string_bytes out.old ++ metrics_body (ring.now.version).now (option_map (λ text. text.now) ring.now.ring) ring.now.started process.now ring.now.nodes.now) }
+    ensures { OnOk result (string_bytes out.new ≡ string_bytes out.old ++ metrics_told ring.now process.now) }
 {
     print_program(out, ring, process)?;
     print_families(out, Metric::all(), ring.nodes)?;
@@ -372,7 +372,7 @@ pub fn metrics_text(
     ring: &RingStatus<'_>,
     process: &Process,
 ) -> Result<String, AllocError>
-    ensures { IfOk result (λ text. string_bytes text ≡ metrics_body (ring.now.version).now (option_map (λ text. text.now) ring.now.ring) ring.now.started process.now ring.now.nodes.now) }
+    ensures { IfOk result (λ text. string_bytes text ≡ metrics_told ring.now process.now) }
 {
     let mut out = String::new(alloc);
     print_all(&mut out, ring, process)?;

@@ -9,7 +9,8 @@ use Rattle.ring_records.specs.declared.base.Base.{Base}
 use Rattle.ring_records.specs.declared.input.Input.{Input}
 use Rattle.ring_records.specs.declared.input.Input.TheVariants.{Stand, Take, Acked, Retire}
 use Rattle.ring_records.specs.declared.msg.Msg.{Msg}
-use Rattle.ring_records.specs.Admission.{IsAdmitted, IsInTurn, IsLawful}
+use Rattle.ring_records.specs.Admission.{IsInTurn}
+use Rattle.ring_records.specs.Lawful.{IsAdmitted, IsLawful}
 use Rattle.ring_records.specs.Emission.{sent}
 use Rattle.ring_records.specs.Fitting.{LinkFits}
 use Rattle.ring_records.specs.History.{upto_of, message_of, taken, credit}

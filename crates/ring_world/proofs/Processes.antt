@@ -8,12 +8,14 @@ use Rattle.ring_records.specs.declared.base.Base.{Base}
 use Rattle.ring_records.specs.declared.input.Input.{Input}
 use Rattle.ring_records.specs.declared.refusal.Refusal.{Refusal}
 use Rattle.ring_records.specs.declared.request.Request.{Request}
-use Rattle.ring_records.specs.Admission.{base_of, refusal, IsBaseOf, IsLawful}
+use Rattle.ring_records.specs.Admission.{base_of, refusal, IsBaseOf}
+use Rattle.ring_records.specs.Lawful.{IsLawful}
 use Rattle.ring_records.specs.Answer.{input_of, if_free, if_input, gained, answer, answered, Answered}
 use Rattle.ring_records.specs.Lists.{EachAfter}
 use Rattle.ring_records.specs.Member.{Member, member}
 use Rattle.ring_records.specs.Summary.{summary, empty}
-use Rattle.ring_records.specs.States.{NodeState, IsLawfulState, is_idle, launched_base, flying_in, left_by, gained_by, answered_by, opened, asked}
+use Rattle.ring_records.specs.States.{NodeState, is_idle, launched_base, flying_in, left_by, gained_by, answered_by, opened, asked}
+use Rattle.ring_records.specs.Lawful.{IsLawfulState}
 use Rattle.std.proofs.lemmas.Option.{same_Some}
 use Rattle.ring_records.proofs.Leader.{Contains-nil, Contains-cons_cases}
 use Rattle.ring_records.proofs.Sound.{summary-none}

@@ -19,7 +19,8 @@ use Rattle.ring_records.specs.Leader.{first_leader, leader, latest}
 use Rattle.ring_records.specs.Lists.{joined_after}
 use Rattle.ring_records.specs.Order.{is_less}
 use Rattle.ring_records.specs.Ring.{part, IsLegal}
-use Rattle.ring_records.specs.States.{NodeState, IsNodeState, durable_in}
+use Rattle.ring_records.specs.States.{NodeState, durable_in}
+use Rattle.ring_records.specs.Lawful.{IsNodeState}
 use Rattle.ring_records.proofs.Growth.{first_leader-kept, EachAfter-front, EachAfter-at, take-less}
 use Rattle.ring_records.proofs.History.{leader-shown}
 use Rattle.ring_records.proofs.Leader.{latest-leads}

@@ -12,7 +12,7 @@ use Rattle.ring_records.specs.declared.packet.Packet.{Packet}
 use Rattle.ring_records.specs.declared.packet.Packet.TheVariants.{Carry, Credit}
 use Rattle.ring_records.specs.declared.request.Request.{Request}
 use Rattle.ring_records.specs.declared.request.Request.TheVariants as ask
-use Rattle.ring_records.specs.Admission.{IsAdmitted, IsLawful}
+use Rattle.ring_records.specs.Lawful.{IsAdmitted, IsLawful}
 use Rattle.ring_records.specs.Answer.{input_of, PacketRests}
 use Rattle.ring_records.specs.Lists.{EachAfter, joined_after}
 use Rattle.ring_records.specs.Place.{before, after}

@@ -13,7 +13,8 @@ use Rattle.ring_records.specs.Member.{Member, member}
 use Rattle.ring_node.specs.declared.flight.Flight.{Flight}
 use Rattle.ring_node.specs.declared.flight.Flight.TheVariants.{Batch, Checkpoint}
 use Rattle.ring_node.specs.Held.{MayBegin, MayStop}
-use Rattle.ring_node.specs.Node.{NodeView, new_node, state_of, durable_in, asked_with, checkpoint_refusal, made_durable, left, reopened, is_credited}
+use Rattle.ring_node.specs.Node.{NodeView, new_node, state_of, durable_in, asked_with, made_durable, left, reopened, is_credited}
+use Rattle.ring_node.specs.Refusals.{checkpoint_refusal}
 use Rattle.ring_node.specs.Open.{Open, due, sealed}
 use Rattle.ring_world.specs.Events.{Action, Submit, Land, Crash, IsDelivered}
 use Rattle.ring_world.specs.Ring.{RingView, node_at, held_at, is_launched, launch, landing, landed, asked, due_at, release_of, settled, crashed, stopped, given, handed, is_released}

@@ -12,7 +12,7 @@ use Rattle.ring_records.specs.Message.{is_outside}
 use Rattle.ring_records.specs.Place.{before}
 use Rattle.ring_node.specs.declared.flight.Flight.{Flight}
 use Rattle.ring_node.specs.declared.flight.Flight.TheVariants as flights
-use Rattle.ring_node.specs.Node.{checkpoint_refusal}
+use Rattle.ring_node.specs.Refusals.{checkpoint_refusal}
 use Rattle.ring_world.specs.Ring as ring
 use Rattle.ring_world.specs.Ring.{RingView, node_at, is_launched, lost, round, brought, carried, is_earned, is_released, is_full, swept}
 use Rattle.ring_world.specs.State.{State}

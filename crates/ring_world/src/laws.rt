@@ -1,23 +1,19 @@
 //! Laws of runs and schedules of a ring: public functions with an empty body, whose contracts say what follows from the
 //! definitions alone. No program calls them. Further laws of schedules are in `fits`.
-ghost use Rattle.std.specs.Prelude.{◌≡◌, ◌≢◌, ◌≤◌, ℕ, true, List, [], ◌∷◌, ◌++◌, take, IsTrue, IsSome};
+ghost use Rattle.std.specs.Prelude.{◌≡◌, ◌≢◌, ◌≤◌, ℕ, List, ◌∷◌, ◌++◌, take, IsTrue, IsSome};
 ghost use Rattle.std.specs.List.{Contains};
 ghost use Rattle.ring_records.specs.declared.base.Base.{Base};
 ghost use Rattle.ring_records.specs.declared.candidate.Candidate.{Candidate};
 ghost use Rattle.ring_records.specs.declared.input.Input.{Input};
 ghost use Rattle.ring_records.specs.declared.input.Input.TheVariants.{Stand};
 ghost use Rattle.ring_records.specs.declared.key.Key.{Key};
-ghost use Rattle.ring_records.specs.Admission.{fresh, IsBaseOf};
 ghost use Rattle.ring_records.specs.Leader.{leader};
-ghost use Rattle.ring_records.specs.Member.{Member};
 ghost use Rattle.ring_records.specs.Order.{is_less};
 ghost use Rattle.ring_records.specs.Ring.{IsLegal, part};
-ghost use Rattle.ring_records.specs.States.{NodeState, IsLawfulState, is_idle, opened};
 ghost use Rattle.ring_world.specs.Agreement.{IsKnown, IsRetiredNowhere, IsDrained};
 ghost use Rattle.ring_world.specs.Committed.{committed};
-ghost use Rattle.ring_world.specs.Events.{Thing, Action, Release, launched_in, state_after, IsSchedule};
+ghost use Rattle.ring_world.specs.Events.{Thing, Action, Release, state_after, IsSchedule};
 ghost use Rattle.ring_world.specs.Released.{IsKept, IsAnnounced};
-ghost use Rattle.ring_world.specs.Start.{IsFormatted};
 
 /// In a legal run all leaders that are known for one key, at whatever node and after however many of its inputs, are
 /// one candidate. It stands in the run, and every other candidate that stands there for the key, earlier or later, is
@@ -34,16 +30,6 @@ pub fn agreement()
 pub fn decided()
     ensures { (n : ℕ) (run : List (ℕ × Input)) (key : Key) (i bid node : ℕ)
         → IsLegal n run → IsDrained n run → Contains run (i, Stand key bid) → IsRetiredNowhere n run key → 1 ≤ node → node ≤ n → IsSome (leader node (part run node) key) }
-{}
-
-/// Whatever releases wrote a node's journal, its state is lawful and stays so, as `states_stay_lawful` of ring_records
-/// says of this one. As some release formatted it a journal stands for no input, and so for none of whatever history;
-/// a new one of today is such a journal. A checkpoint may be of any layout.
-pub fn releases_stay_lawful()
-    ensures new { IsFormatted fresh }
-    ensures base { (me : ℕ) (base : Base) (h : List Input) → IsFormatted base → IsBaseOf me base h }
-    ensures opened { (m : Member) (base : Base) → IsFormatted base → IsLawfulState m (opened base []) }
-    ensures launched_in { (m : Member) (s : NodeState) (layout : ℕ) → is_idle s ≡ true → IsLawfulState m s → IsLawfulState m (launched_in layout m.node s) }
 {}
 
 /// In every schedule, at every node, what is released rests on inputs that are durable at its release. They are durable

@@ -2,7 +2,7 @@
 use Rattle.std.proofs.Common.{◌≡◌, ℕ, ◌+◌, ◌*◌, ◌<◌, ◌≤◌, false, List, [], ◌∷◌, ◌++◌, length, take, drop, refl, sym, ap, ◌∙◌, arith, append_assoc, append-nil, subst, None, Option}
 use Rattle.std.proofs.lemmas.List.{take-append-drop, length-append, drop-drop}
 use Rattle.std.proofs.Math.Seq.{take-add}
-use Rattle.std.proofs.KnownBytes.{Appends-nil, Appends-trans}
+use Rattle.std.proofs.KnownBytes.{Appends-trans}
 use Rattle.std.specs.Io.KnownBytes.{Appends}
 use Rattle.ring_world.specs.State.{State}
 use Rattle.line_words.specs.Texts.{text_of, IsFront}
@@ -30,20 +30,6 @@ pub record Progress (script rest : List ℕ) (old now : Option (List ℕ)) (s : 
   pub lines : count ≤ 1000002 * n
   pub few : n + length rest ≤ 1000000
   pub short : length script ≤ 1000000
-
-pub begin : (script : List ℕ) (old : Option (List ℕ)) (s : Option State) → length script ≤ 1000000 → s ≡ None → Progress script script old old s 0
-begin script old s few none = record {
-  n = 0;
-  out = [];
-  left = refl;
-  ran = (refl, none);
-  written = Appends-nil old;
-  counted = refl;
-  tickets = omega (arith, ap tickets_of none);
-  lines = omega arith;
-  few = omega arith;
-  short = few;
-}
 
 -- one more line, of which m lines out are printed
 pub go_on : (script rest after line : List ℕ) (old now new : Option (List ℕ)) (s t : Option State) (count m : ℕ) (out : List (List ℕ))

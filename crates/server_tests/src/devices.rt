@@ -7,7 +7,8 @@ use disk_model::{Device, FuseDevice, MemDevice};
 use log_lines::LogForm;
 use node_store::Node;
 use ring_records::{Bid, GroupName, Key, NodeNo, Refusal, Request, Term};
-use ring_server::{Doors, OpenNode, Post, Ring, Site, serve_ring};
+use ring_server::{Doors, Post, Ring, Site, serve_ring};
+use ring_start::OpenNode;
 use ring_watch::{Facts, Reception, StatusPort};
 use std::alloc::{AllocGlobal, Global};
 use std::io;
@@ -21,8 +22,8 @@ use std::thread::Threads;
 use std::time::Clock;
 
 /// How three nodes are served: from the port behind this one on, with so many bytes of capacity, for so many sessions
-/// each. Node 1 stood so often before, for `red`; node 2's device fails after so many calls. An operator is told at the
-/// port of `status`.
+/// each. Node 1 stood so often before, for `red`; node 2's device fails after so many calls. All that happens is told where it
+/// is `verbose`, and an operator is told at the port of `status`.
 #[derive(Clone, Copy)]
 pub struct Served {
     pub port: u16,
@@ -31,6 +32,7 @@ pub struct Served {
     pub stood: u32,
     pub fails_after: u64,
     pub fail_stop: bool,
+    pub verbose: bool,
     pub status: Option<u16>,
 }
 
@@ -240,7 +242,7 @@ pub fn serve_three<
         fail_stop: served.fail_stop,
         dir: String::from_str(alloc, "ring").expect(rt, "memory"),
         log: LogForm::Plain,
-        verbose: false,
+        verbose: served.verbose,
     };
     let status = serve_ring(rt, alloc, ring, &mut out, &mut err);
     let Seen { text, len: _ } = err;

@@ -5,11 +5,11 @@ use crate::http::is_answered;
 use crate::programs::{Ring, Scenario};
 use crate::steps::runs_anew;
 use crate::visits::Say::{Line, Nothing};
-use crate::visits::{Say, Visit, asks};
+use crate::visits::{Say, Visit};
 use std::alloc::AllocGlobal;
 use std::net::{Net, TcpStream};
 use std::test::*;
-use std::time::{Clock, Duration};
+use std::time::{Clock, Duration, Instant};
 
 /// Whether three clients of the node at this port are each answered while the others are there.
 pub fn side_by_side<R: Net<Stream = TcpStream> + Clock>(rt: &R, port: u16) -> bool {
@@ -69,35 +69,130 @@ fn silent_clients(rt: HostRuntime) {
     runs_anew(&rt, "silent", &IDLE);
 }
 
-/// Whether the session is answered so often, and then ended.
-fn ends_behind<R: Net<Stream = TcpStream> + Clock>(rt: &R, port: u16, lines: u32) -> bool {
-    let Some(stream) = connect(rt, port) else {
-        return false;
-    };
-    for _ in 0..lines {
-        if !answers(&stream, b"latest red\n", b"none") {
-            return false;
-        }
-    }
-    is_ended(&stream)
+/// A client of the node's last free door, which may be left where it was silent for a second: since when it was at most.
+#[derive(Drop)]
+struct Hasty {
+    stream: TcpStream,
+    since: Instant,
 }
 
-/// Whether the session that has the last free door of the node at this port goes on once another one ends.
-fn goes_on<R: Net<Stream = TcpStream> + Clock>(rt: &R, port: u16, other: TcpStream) -> bool {
-    let Some(stream) = connect(rt, port) else {
+/// How an answer came.
+#[derive(Clone, Copy, PartialEq, Eq)]
+enum Came {
+    AsItIsToBe,
+    /// It did not, where a second had passed before.
+    Late,
+    Otherwise,
+}
+
+impl Hasty {
+    /// Of the node at this port.
+    fn new<R: Net<Stream = TcpStream> + Clock>(rt: &R, port: u16) -> Option<Hasty> {
+        let since = Instant::now(rt).ok()?;
+        let stream = connect(rt, port)?;
+        Some(Hasty { stream, since })
+    }
+
+    /// Whether a second has passed that it was silent.
+    fn was_silent<R: Clock>(&self, rt: &R) -> bool {
+        match self.since.elapsed(rt) {
+            Ok(time) => time >= Duration::from_secs(1),
+            Err(_) => false,
+        }
+    }
+
+    /// Asks this, and is answered so.
+    fn asks<R: Clock>(&mut self, rt: &R, line: &[u8], text: &[u8]) -> Came {
+        let now = Instant::now(rt);
+        if !answers(&self.stream, line, text) {
+            return if self.was_silent(rt) {
+                Came::Late
+            } else {
+                Came::Otherwise
+            };
+        }
+        if let Ok(now) = now {
+            self.since = now;
+        }
+        Came::AsItIsToBe
+    }
+
+    /// Asks so often who leads.
+    fn asks_often<R: Clock>(&mut self, rt: &R, lines: u32) -> Came {
+        for _ in 0..lines {
+            let came = self.asks(rt, b"latest red\n", b"none");
+            if came != Came::AsItIsToBe {
+                return came;
+            }
+        }
+        Came::AsItIsToBe
+    }
+}
+
+/// Whether a client is answered ten times, and not once more.
+fn is_left_behind_ten<R: Net<Stream = TcpStream> + Clock>(rt: &R, port: u16) -> bool {
+    let Some(mut client) = Hasty::new(rt, port) else {
         return false;
     };
-    if !answers(&stream, b"latest red\n", b"none") || !answers(&other, b"bye\n", b"bye") {
+    match client.asks_often(rt, 10) {
+        Came::AsItIsToBe => !answers(&client.stream, b"latest red\n", b"none"),
+        came => came == Came::Late,
+    }
+}
+
+/// Whether a client is left that asks once, and then is silent.
+fn is_left_silent<R: Net<Stream = TcpStream> + Clock>(rt: &R, port: u16) -> bool {
+    let Some(mut client) = Hasty::new(rt, port) else {
+        return false;
+    };
+    match client.asks_often(rt, 1) {
+        Came::AsItIsToBe => is_ended(&client.stream),
+        came => came == Came::Late,
+    }
+}
+
+/// Whether a client asks something, is answered, and says `bye`.
+fn is_served_shortly<R: Net<Stream = TcpStream> + Clock>(rt: &R, port: u16) -> bool {
+    let Some(mut client) = Hasty::new(rt, port) else {
+        return false;
+    };
+    let mut came = client.asks_often(rt, 1);
+    if came == Came::AsItIsToBe {
+        came = client.asks(rt, b"bye\n", b"bye");
+    }
+    came != Came::Otherwise
+}
+
+/// Whether the session that has the last free door of the node at this port goes on once another one ends, however silent it is.
+fn goes_on<R: Net<Stream = TcpStream> + Clock + AllocGlobal>(
+    rt: &R,
+    port: u16,
+    told_at: u16,
+    other: TcpStream,
+) -> bool {
+    let Some(mut client) = Hasty::new(rt, port) else {
+        return false;
+    };
+    let first = client.asks_often(rt, 1);
+    // the one that is kept is none of them
+    if first == Came::Otherwise
+        || !is_answered(rt, told_at, Target("/status", b"\"busy\":2,\"doors\":2,"))
+        || !answers(&other, b"bye\n", b"bye")
+        || !is_answered(rt, told_at, AtLast("/status", b"\"doorless\":[],"))
+    {
         return false;
     }
-    drop(other);
+    // it was left before the other door was free
+    if first == Came::Late || client.was_silent(rt) {
+        return true;
+    }
     rt.sleep(Duration::from_millis(1_500));
     for _ in 0..12 {
-        if !answers(&stream, b"latest red\n", b"none") {
+        if !answers(&client.stream, b"latest red\n", b"none") {
             return false;
         }
     }
-    answers(&stream, b"bye\n", b"bye")
+    answers(&client.stream, b"bye\n", b"bye")
 }
 
 /// Whether two clients hold the two doors of the node at this port, and others are answered all the same, each for ten lines or
@@ -112,18 +207,17 @@ pub fn keeps_a_door<R: Net<Stream = TcpStream> + Clock + AllocGlobal>(
     };
     answers(&one, b"latest red\n", b"none")
         && answers(&two, b"latest red\n", b"none")
-        && ends_behind(rt, port, 10)
-        && ends_behind(rt, port, 1)
+        && is_left_behind_ten(rt, port)
+        && is_left_silent(rt, port)
         && is_answered(
             rt,
             told_at,
             NotWell(b"\r\n\r\nnode 1 has no door free\nhelp: give more doors, or less idle time\n"),
         )
         && is_answered(rt, told_at, Target("/status", b"\"doorless\":[1],"))
-        && asks(rt, port, b"latest red\n", b"none")
+        && is_served_shortly(rt, port)
         && answers(&one, b"latest red\n", b"none")
-        && goes_on(rt, port, two)
-        && is_answered(rt, told_at, AtLast("/status", b"\"doorless\":[],"))
+        && goes_on(rt, port, told_at, two)
         && answers(&one, b"bye\n", b"bye")
 }
 

@@ -24,6 +24,7 @@ const ONE_FAILS: Served = Served {
     stood: 0,
     fails_after: 40,
     fail_stop: false,
+    verbose: false,
     status: None,
 };
 
@@ -103,6 +104,7 @@ const FAIL_STOP: Scenario = Scenario {
         stood: 0,
         fails_after: 40,
         fail_stop: true,
+        verbose: false,
         status: None,
     }),
     visits: [&[Visit::StandsUntilItFails(7178)], &[], &[]],
@@ -127,6 +129,7 @@ const STOOD_BEFORE: Scenario = Scenario {
         stood: 300,
         fails_after: u64::MAX,
         fail_stop: false,
+        verbose: false,
         status: None,
     }),
     visits: [

@@ -3,8 +3,8 @@ use crate::fake::{Fake, Lack, Trick};
 use crate::steps::anew;
 use disk_model::{SystemCall, SystemFault};
 use log_lines::LogForm;
-use ring_server::{Log, Place, RunFault, Told, Unopened, make};
-use ring_service::read_settings;
+use ring_service::{VERSION, read_settings};
+use ring_start::{Log, Place, RingFault, Target, Told, Unopened, make_ring};
 use std::alloc::AllocGlobal;
 use std::cell::Cell;
 use std::fs;
@@ -42,9 +42,21 @@ fn made<R: Abort + AllocGlobal + Clock + Files<File = File>>(
     };
     let mut err = Vec::new(rt.alloc());
     let mut log = Log::new(rt, &mut err, LogForm::Plain);
-    match make(&fake, rt.alloc(), &settings, None, &mut log) {
+    let target = Target {
+        nodes: settings.nodes,
+        capacity: settings.capacity,
+        ring: None,
+    };
+    match make_ring(
+        &fake,
+        rt.alloc(),
+        settings.dir.as_str(),
+        target,
+        VERSION,
+        &mut log,
+    ) {
         Ok(_) => None,
-        Err(RunFault::Node(_, unopened)) => Some(unopened),
+        Err(RingFault::Node(_, unopened)) => Some(unopened),
         Err(_) => panic!(rt; "no fault of a node"),
     }
 }

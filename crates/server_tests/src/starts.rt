@@ -12,7 +12,8 @@ use crate::visits::{Say, Visit};
 use disk_model::{FileDevice, FuseDevice, MemDevice};
 use node_store::Node;
 use ring_records::{NodeNo, Refusal};
-use ring_server::{OpenNode, RunFault, Unopened};
+use ring_server::RunFault;
+use ring_start::{OpenNode, RingFault, Unopened};
 use std::alloc::AllocGlobal;
 use std::fs;
 use std::process::Abort;
@@ -120,7 +121,7 @@ fn a_device_that_fails_in_the_checkpoint_of_a_start(rt: HostRuntime) -> Result<(
         let Err(refusal) = renews(&rt, passes) else {
             panic!(&rt; "not refused");
         };
-        let fault = RunFault::Node(NodeNo::first(), Unopened::new(refusal));
+        let fault = RunFault::Ring(RingFault::Node(NodeNo::first(), Unopened::new(refusal)));
         let text = format!(in rt.alloc(); "{fault}")?;
         assert!(&rt; text.as_str() == "node 1: device 1");
         assert!(&rt; fault.status() == 1);

@@ -257,6 +257,7 @@ const NOT_WELL: Scenario = Scenario {
         stood: 0,
         fails_after: 40,
         fail_stop: false,
+        verbose: false,
         status: Some(7245),
     }),
     visits: [

@@ -1,5 +1,8 @@
 // What is counted of a node, and what is told of that at moments that the test tells.
-use ring_records::{NodeNo, Shown};
+use group_commit::Landed;
+use ring_post::{Letter, RingPlace};
+use ring_records::{Bid, Candidate, GroupName, Key, Msg, NodeNo, Packet, Shown, Term};
+use ring_server::Post;
 use ring_status::{
     Bound, Condition, Counts, Holding, Landing, Letters, NodeStatus, Place, node_status,
 };
@@ -166,5 +169,54 @@ fn each_is_counted_as_what_it_is(rt: HostRuntime) -> Result<(), Fail> {
         since: None,
     };
     assert!(rt; tally.counts(&rt) == counted);
+    Ok(())
+}
+
+/// A token of node 1.
+fn token(rt: &impl Abort) -> Msg {
+    let key = Key {
+        group: GroupName::read(b"red").expect(rt, "a group"),
+        term: Term::first(),
+    };
+    let candidate = Candidate {
+        bid: Bid::new(10).expect(rt, "a bid"),
+        node: NodeNo::first(),
+    };
+    Msg::Token { key, candidate }
+}
+
+/// What landed has this message too, as the one of that number.
+fn carries(landed: &mut Landed, no: u64, msg: Msg) -> Result<(), AllocError> {
+    landed.packets.push(Packet::Carry { no, msg })?;
+    Ok(())
+}
+
+/// Node 1 of three sends what is at this index of what landed there.
+fn sends<R: Abort + Wait>(rt: &R, post: &Post, landed: &Landed, index: usize) {
+    let first = RingPlace {
+        node: NodeNo::first(),
+        nodes: 3,
+    };
+    let letter = Letter::of_landed(first, landed, index).expect(rt, "a letter");
+    post.send(rt, letter);
+}
+
+#[test]
+fn letters_wait_at_the_node_that_they_were_sent_to(rt: HostRuntime) -> Result<(), Fail> {
+    let (post, _inboxes) = Post::new(rt.alloc(), 3)?;
+    let mut landed = Landed::new(rt.alloc());
+    let msg: Msg = token(&rt);
+    carries(&mut landed, 0, msg)?;
+    carries(&mut landed, 1, msg)?;
+    // for a credit nobody waits
+    landed.packets.push(Packet::Credit { upto: 1 })?;
+    for index in 0..3 {
+        sends(&rt, &post, &landed, index);
+    }
+    post.done(NodeNo::new(2).expect(&rt, "a node"));
+    for (number, count) in [(1, 0), (2, 1), (3, 0)] {
+        let node = NodeNo::new(number).expect(&rt, "a node");
+        assert!(rt; post.letters(node) == Letters { node, count });
+    }
     Ok(())
 }

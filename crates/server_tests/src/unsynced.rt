@@ -1,6 +1,6 @@
 // A folder whose sync the system refuses.
 use disk_model::{SystemCall, SystemFault};
-use ring_server::{Folder, Place, Told};
+use ring_start::{Folder, Place, Told};
 use std::fs;
 use std::io::ErrorKind;
 use std::os::unix::fs::symlink;

@@ -1,7 +1,7 @@
 // Calls of hubs and flushers that go well, or are refused as they are to be.
 
 use crate::rows::request;
-use commit_hub::{Hub, Node, Share};
+use commit_hub::{Hub, NodeLedger, Share};
 use decision_board::Naming;
 use disk_model::Device;
 use group_commit::{Stub, Ticket};
@@ -14,7 +14,7 @@ use test_rows::Ask;
 
 /// Flushes until the hub is closed, which is told before, and nothing waits, or the device fails. Where a growth is
 /// refused it goes on.
-pub fn flush_all<V: Device, J: Naming, A: Node, R: Wait + Abort, G: Gate>(
+pub fn flush_all<V: Device, J: Naming, A: NodeLedger, R: Wait + Abort, G: Gate>(
     rt: &R,
     hub: &Hub<A>,
     flusher: &mut Flusher<V, J, A>,
@@ -40,7 +40,7 @@ pub fn refused(rt: &impl Abort, refusal: Refusal) -> ! {
 }
 
 /// A round: how many inputs it makes durable, and how many leaders and floors they make known.
-pub fn round<V: Device, J: Naming, A: Node, R: Wait, G: Gate>(
+pub fn round<V: Device, J: Naming, A: NodeLedger, R: Wait, G: Gate>(
     rt: &R,
     hub: &Hub<A>,
     flusher: &mut Flusher<V, J, A>,
@@ -77,7 +77,7 @@ impl Gate for Noted {
 }
 
 /// A ticket for the request. Where a growth is refused it is asked again.
-pub fn submits<A: Node, R: Wait + Abort>(
+pub fn submits<A: NodeLedger, R: Wait + Abort>(
     rt: &R,
     hub: &Hub<A>,
     share: &mut Share<A>,
@@ -96,7 +96,7 @@ pub fn submits<A: Node, R: Wait + Abort>(
 }
 
 /// The stub of the ticket's reply. A ticket that is refused is forfeited.
-pub fn released<A: Node, R: Wait + Abort>(
+pub fn released<A: NodeLedger, R: Wait + Abort>(
     rt: &R,
     hub: &Hub<A>,
     ticket: Ticket,
@@ -115,7 +115,7 @@ pub fn released<A: Node, R: Wait + Abort>(
 
 /// How many inputs a round makes durable, and how many leaders and floors they make known. Where a growth is refused it is tried
 /// again.
-pub fn rounds<V: Device, J: Naming, A: Node, R: Wait + Abort, G: Gate>(
+pub fn rounds<V: Device, J: Naming, A: NodeLedger, R: Wait + Abort, G: Gate>(
     rt: &R,
     hub: &Hub<A>,
     flusher: &mut Flusher<V, J, A>,
@@ -133,7 +133,7 @@ pub fn rounds<V: Device, J: Naming, A: Node, R: Wait + Abort, G: Gate>(
 }
 
 /// A round that makes a leader or a floor known.
-pub fn leads<V: Device, J: Naming, A: Node, R: Wait + Abort>(
+pub fn leads<V: Device, J: Naming, A: NodeLedger, R: Wait + Abort>(
     rt: &R,
     hub: &Hub<A>,
     flusher: &mut Flusher<V, J, A>,
@@ -147,7 +147,7 @@ pub fn leads<V: Device, J: Naming, A: Node, R: Wait + Abort>(
 
 /// The device fails within the round that makes the ticket's input durable: the flusher has ended, and the ticket is given
 /// back with no reply.
-pub fn fails_next<V: Device, J: Naming, A: Node, R: Wait + Abort>(
+pub fn fails_next<V: Device, J: Naming, A: NodeLedger, R: Wait + Abort>(
     rt: &R,
     hub: &Hub<A>,
     flusher: &mut Flusher<V, J, A>,

@@ -2,7 +2,7 @@
 use crate::calls::{released, submits};
 use crate::rows::{Leads, bid, group, key, latest, leader, reply};
 use crate::slow::{Flags, await_flag};
-use commit_hub::{Hub, Node, Share};
+use commit_hub::{Hub, NodeLedger, Share};
 use decision_board::{Board, BoardReader, Naming};
 use group_commit::Stub;
 use ring_records::{Refusal, Reply};
@@ -37,13 +37,13 @@ pub enum Act {
 
 /// A share, a reader, and the stub of the last reply, if there was one.
 #[derive(Drop)]
-pub struct Client<J: Naming, A: Node> {
+pub struct Client<J: Naming, A: NodeLedger> {
     pub share: Share<A>,
     pub reader: BoardReader<J>,
     pub last: Option<Stub>,
 }
 
-impl<J: Naming, A: Node> Client<J, A> {
+impl<J: Naming, A: NodeLedger> Client<J, A> {
     /// A client of the hub and the board, which have a place left.
     pub fn enters<R: Wait + Abort>(rt: &R, hub: &Hub<A>, board: &Board<J>) -> Client<J, A> {
         Client {
@@ -204,7 +204,7 @@ const AGAIN: Say = Say::Refused(Cause::Already(10));
 const EARLY: Say = Say::Refused(Cause::Undecided);
 
 /// Stands twice with bid 10: the second is refused, and no leader is known, so no floor is taken.
-fn asks_twice<J: Naming, A: Node, R: Wait + Abort>(
+fn asks_twice<J: Naming, A: NodeLedger, R: Wait + Abort>(
     rt: &R,
     service: &mut HubService<'_, R, J, A>,
     name: &str,

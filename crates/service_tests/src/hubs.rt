@@ -5,6 +5,7 @@ ghost use Rattle.ring_records.specs.States.{durable_in};
 ghost use Rattle.gated_journal.specs.Journal.{member_of, len_of, room_of, layout_of, epoch_of, is_spoiled};
 ghost use Rattle.node_core.specs.Core.{IsNodeOf};
 ghost use Rattle.node_store.specs.Node.{desk_of};
+ghost use Rattle.commit_hub.specs.Desks.{is_over};
 ghost use Rattle.commit_hub.specs.Pages.{ForAccepted, ForTie};
 
 use crate::calls::{Noted, refused};
@@ -14,7 +15,7 @@ use crate::rows::{fills, node};
 use crate::slow::Flags;
 use crate::station::{Station, Step};
 use crate::together::{Duo, Settled, settles, together};
-use commit_hub::{Blanks, Hub, Node};
+use commit_hub::{Blanks, Hub, NodeLedger};
 use decision_board::{Board, Naming, Opened};
 use disk_model::Device;
 use gated_journal::Journal;
@@ -63,7 +64,7 @@ pub struct Ended<V: Device> {
 }
 
 /// The hub, its flusher and the client behind the steps.
-fn played<V: Device, J: Naming, A: Node, R: Wait + Abort + AllocGlobal>(
+fn played<V: Device, J: Naming, A: NodeLedger, R: Wait + Abort + AllocGlobal>(
     rt: &R,
     hub: Hub<A>,
     flusher: Flusher<V, J, A>,
@@ -91,7 +92,7 @@ fn played<V: Device, J: Naming, A: Node, R: Wait + Abort + AllocGlobal>(
 }
 
 /// The journal, and how many rounds the board is owed.
-fn ends<V: Device, J: Naming, A: Node, R: Wait>(
+fn ends<V: Device, J: Naming, A: NodeLedger, R: Wait>(
     rt: &R,
     flusher: Flusher<V, J, A>,
 ) -> (Journal<V>, usize) {
@@ -101,7 +102,7 @@ fn ends<V: Device, J: Naming, A: Node, R: Wait>(
 }
 
 /// Ends the flusher, and settles the hub by the shares of both clients.
-fn settled<V: Device, J: Naming, A: Node, R: Wait + Abort + AllocGlobal>(
+fn settled<V: Device, J: Naming, A: NodeLedger, R: Wait + Abort + AllocGlobal>(
     rt: &R,
     hub: Hub<A>,
     flusher: Flusher<V, J, A>,
@@ -120,7 +121,7 @@ fn settled<V: Device, J: Naming, A: Node, R: Wait + Abort + AllocGlobal>(
 fn on_hub<
     V: Device + Drop + Send,
     J: Naming + Send + Sync,
-    A: Node + Send + Sync,
+    A: NodeLedger + Send + Sync,
     R: Threads + Wait + Clock + Abort + AllocGlobal + Sync,
 >(
     rt: &R,
@@ -133,6 +134,8 @@ fn on_hub<
     requires member { desk.view.member ≡ A.member }
     requires opening { desk.opening ≡ A.opening }
     requires none { desk.view.state.checkpoint ≡ None }
+    requires idle { desk.view.state.flying ≡ desk.view.state.durable }
+    requires open { is_over desk ≡ false }
     requires inside { IsNodeOf desk.view.member.n desk.view.member.node }
     requires opened { desk.opening.inputs + length desk.view.state.inputs ≡ A.opened }
     requires history { opened ≡ J.history }
@@ -163,7 +166,7 @@ fn on_hub<
 fn with_clients<
     V: Device + Send,
     J: Naming + Send + Sync,
-    A: Node + Send + Sync,
+    A: NodeLedger + Send + Sync,
     R: Threads + Wait + Clock + Abort + AllocGlobal + Sync,
 >(
     rt: &R,
@@ -185,7 +188,7 @@ fn with_clients<
 }
 
 /// Behind the steps the flusher ends.
-fn alone<V: Device, J: Naming, A: Node, R: Wait + Abort + AllocGlobal>(
+fn alone<V: Device, J: Naming, A: NodeLedger, R: Wait + Abort + AllocGlobal>(
     rt: &R,
     hub: Hub<A>,
     flusher: Flusher<V, J, A>,
@@ -203,7 +206,7 @@ fn alone<V: Device, J: Naming, A: Node, R: Wait + Abort + AllocGlobal>(
 }
 
 /// Behind the steps the hub is settled.
-fn stepped<V: Device, J: Naming, A: Node, R: Wait + Abort + AllocGlobal>(
+fn stepped<V: Device, J: Naming, A: NodeLedger, R: Wait + Abort + AllocGlobal>(
     rt: &R,
     hub: Hub<A>,
     flusher: Flusher<V, J, A>,
@@ -219,7 +222,7 @@ fn stepped<V: Device, J: Naming, A: Node, R: Wait + Abort + AllocGlobal>(
 fn beside<
     V: Device + Send,
     J: Naming + Send + Sync,
-    A: Node + Send + Sync,
+    A: NodeLedger + Send + Sync,
     R: Threads + Wait + Clock + Abort + AllocGlobal + Sync,
 >(
     rt: &R,
@@ -240,7 +243,7 @@ fn beside<
 fn in_ring<
     V: Device + Send,
     J: Naming + Send + Sync,
-    A: Node + Send + Sync,
+    A: NodeLedger + Send + Sync,
     R: Threads + Wait + Clock + Abort + AllocGlobal + Sync,
 >(
     rt: &R,

@@ -5,7 +5,7 @@ use crate::calls::{refused, released};
 use crate::clients::Client;
 use crate::hubs::{Play, ends_settled};
 use crate::rows::{empty_device, key, leader, node, reply, request};
-use commit_hub::{Hub, Node, Share};
+use commit_hub::{Hub, NodeLedger, Share};
 use decision_board::Naming;
 use disk_model::Device;
 use ring_audit::{AuditFault, audit};
@@ -118,7 +118,7 @@ impl Ring {
 }
 
 /// Asks, and waits for this reply.
-fn asks<A: Node, R: Wait + Abort>(
+fn asks<A: NodeLedger, R: Wait + Abort>(
     rt: &R,
     hub: &Hub<A>,
     share: &mut Share<A>,
@@ -133,7 +133,12 @@ fn asks<A: Node, R: Wait + Abort>(
 }
 
 /// Takes the packet.
-fn takes<A: Node, R: Wait + Abort>(rt: &R, hub: &Hub<A>, share: &mut Share<A>, packet: Packet) {
+fn takes<A: NodeLedger, R: Wait + Abort>(
+    rt: &R,
+    hub: &Hub<A>,
+    share: &mut Share<A>,
+    packet: Packet,
+) {
     match packet {
         Packet::Carry { no, msg } => asks(rt, hub, share, Request::Take(no, msg), Say::Taken),
         Packet::Credit { upto } => asks(rt, hub, share, Request::Acked(upto), Say::Acked),
@@ -141,7 +146,7 @@ fn takes<A: Node, R: Wait + Abort>(rt: &R, hub: &Hub<A>, share: &mut Share<A>, p
 }
 
 /// Takes what lies in the letterbox, and tells once the board knows that node 2 leads.
-fn turns<J: Naming, A: Node, R: Wait + Abort + AllocGlobal>(
+fn turns<J: Naming, A: NodeLedger, R: Wait + Abort + AllocGlobal>(
     rt: &R,
     hub: &Hub<A>,
     client: &mut Client<J, A>,
@@ -159,7 +164,7 @@ fn turns<J: Naming, A: Node, R: Wait + Abort + AllocGlobal>(
 }
 
 /// Stands, takes what comes until all boards tell that node 2 leads, and closes the hub.
-fn campaigns<J: Naming, A: Node, R: Wait + Clock + Abort + AllocGlobal>(
+fn campaigns<J: Naming, A: NodeLedger, R: Wait + Clock + Abort + AllocGlobal>(
     rt: &R,
     hub: &Hub<A>,
     client: &mut Client<J, A>,
@@ -180,7 +185,7 @@ fn campaigns<J: Naming, A: Node, R: Wait + Clock + Abort + AllocGlobal>(
 }
 
 /// Flushes until the hub is closed, and sends what each round tells.
-fn flushes<V: Device, J: Naming, A: Node, R: Wait + Abort>(
+fn flushes<V: Device, J: Naming, A: NodeLedger, R: Wait + Abort>(
     rt: &R,
     hub: &Hub<A>,
     flusher: &mut Flusher<V, J, A>,
@@ -208,7 +213,7 @@ fn flushes<V: Device, J: Naming, A: Node, R: Wait + Abort>(
 pub fn takes_part<
     V: Device + Send,
     J: Naming + Send + Sync,
-    A: Node + Send + Sync,
+    A: NodeLedger + Send + Sync,
     R: Threads + Wait + Clock + Abort + AllocGlobal + Sync,
 >(
     rt: &R,

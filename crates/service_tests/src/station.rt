@@ -3,7 +3,7 @@
 use crate::calls::*;
 use crate::clients::Client;
 use crate::rows::{Leads, dropped};
-use commit_hub::{Hub, Node, Share};
+use commit_hub::{Hub, NodeLedger, Share};
 use decision_board::Naming;
 use disk_model::Device;
 use group_commit::Ticket;
@@ -56,7 +56,7 @@ pub enum Step {
 }
 
 /// A hub, its flusher, a client, the tickets that are open, oldest first, and what the gate was told.
-pub struct Station<V: Device, J: Naming, A: Node> {
+pub struct Station<V: Device, J: Naming, A: NodeLedger> {
     pub hub: Hub<A>,
     pub flusher: Flusher<V, J, A>,
     pub client: Client<J, A>,
@@ -82,12 +82,12 @@ fn oldest(rt: &impl Abort, tickets: &mut Vec<Ticket>) -> Ticket {
 }
 
 /// The message is taken, and its ticket is refused and ends.
-fn takes<A: Node, R: Wait + Abort>(rt: &R, hub: &Hub<A>, share: &mut Share<A>, ask: Ask) {
+fn takes<A: NodeLedger, R: Wait + Abort>(rt: &R, hub: &Hub<A>, share: &mut Share<A>, ask: Ask) {
     let ticket = submits(rt, hub, share, ask);
     assert!(rt; hub.forfeit(rt, ticket).is_err());
 }
 
-impl<V: Device, J: Naming, A: Node> Station<V, J, A> {
+impl<V: Device, J: Naming, A: NodeLedger> Station<V, J, A> {
     pub fn plays<R: Wait + Abort + AllocGlobal>(&mut self, rt: &R, steps: &[Step]) {
         for step in steps {
             self.does(rt, *step);

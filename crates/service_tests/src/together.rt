@@ -3,7 +3,7 @@
 use crate::calls::flush_all;
 use crate::clients::{Act, Client};
 use crate::slow::{Flags, HeldGate};
-use commit_hub::{Hub, Node};
+use commit_hub::{Hub, NodeLedger};
 use decision_board::Naming;
 use disk_model::Device;
 use group_commit::{Desk, Stub};
@@ -55,7 +55,7 @@ impl Settled {
 pub fn together<
     V: Device + Send,
     J: Naming + Send + Sync,
-    A: Node + Send + Sync,
+    A: NodeLedger + Send + Sync,
     R: Threads + Wait + Clock + Abort + Sync,
 >(
     rt: &R,
@@ -77,7 +77,7 @@ pub fn together<
 /// Both clients do what they are to, and close the hub.
 fn play_both<
     J: Naming + Send + Sync,
-    A: Node + Send + Sync,
+    A: NodeLedger + Send + Sync,
     R: Threads + Wait + Clock + Abort + Sync,
 >(
     rt: &R,
@@ -98,7 +98,7 @@ fn play_both<
 }
 
 /// Flushes until the hub is closed or the device fails.
-fn flushes<V: Device, J: Naming, A: Node, R: Wait + Clock + Abort>(
+fn flushes<V: Device, J: Naming, A: NodeLedger, R: Wait + Clock + Abort>(
     rt: &R,
     hub: &Hub<A>,
     flusher: &mut Flusher<V, J, A>,
@@ -114,7 +114,7 @@ fn flushes<V: Device, J: Naming, A: Node, R: Wait + Clock + Abort>(
 }
 
 /// How many packets the hub's window has.
-fn window<A: Node, R: Wait + Abort>(rt: &R, hub: &Hub<A>) -> usize {
+fn window<A: NodeLedger, R: Wait + Abort>(rt: &R, hub: &Hub<A>) -> usize {
     let (packets, _begun) = hub.window(rt).expect(rt, "ample memory");
     let count = packets.len();
     drop(packets);
@@ -122,7 +122,7 @@ fn window<A: Node, R: Wait + Abort>(rt: &R, hub: &Hub<A>) -> usize {
 }
 
 /// The shares of both clients settle the hub.
-pub fn settles<J: Naming, A: Node, R: Wait + Abort + AllocGlobal>(
+pub fn settles<J: Naming, A: NodeLedger, R: Wait + Abort + AllocGlobal>(
     rt: &R,
     hub: Hub<A>,
     first: Client<J, A>,

@@ -3,23 +3,14 @@ ghost use Rattle.std.specs.Prelude.{◌<◌, length};
 
 use crate::course::Course;
 use line_words::first_line;
+use row_player::{INDENT, add_line};
 use std::alloc::{AllocError, Global};
-
-/// What a line that is printed below another begins with.
-pub const INDENT: &[u8] = b"  ";
 
 /// A line of the rows, and how many line feeds the client sends for it.
 #[derive(Clone, Copy)]
 pub struct Sent<'a> {
     pub line: &'a [u8],
     pub feeds: usize,
-}
-
-/// Adds a line of these parts.
-pub fn add_line(out: &mut Vec<u8>, front: &[u8], line: &[u8]) -> Result<(), AllocError> {
-    out.extend_from_slice(front)?;
-    out.extend_from_slice(line)?;
-    out.extend_from_slice(b"\n")
 }
 
 /// How many of the first answers, at most `most`, are the same as the first one, and what follows them.

@@ -1,6 +1,4 @@
-//! `session_rows` reads rows from standard input, plays the sessions that they are over a node in memory, and prints
-//! them with what each line is answered now. So rows that hold are printed as they were read. `rows/README.md` tells
-//! their form.
+//! `session_rows` plays rows of sessions over a node in memory. `rows/README.md` tells their form.
 #![tactic(auto)]
 
 mod answers;
@@ -10,62 +8,10 @@ mod marks;
 mod player;
 mod stage;
 
-ghost use Rattle.std.specs.Prelude.{◌≤◌, length, IfOk};
-
-use crate::player::played;
-use line_words::write_whole;
-use std::alloc::Global;
-use std::io::{self, Read};
+use crate::player::Row;
+use row_player::run;
 use std::process::ExitCode;
-use thiserror::Error;
-
-/// The most bytes of all rows.
-const ROWS_BYTES: usize = 1_000_000;
-
-/// Why rows are not printed. Displayed as a text without the program's name.
-#[derive(Clone, Copy, Debug, PartialEq, Eq, Error)]
-enum RowsFault {
-    /// Standard input failed.
-    #[error("rows cannot be read")]
-    Read,
-    /// There are more than 1,000,000 bytes.
-    #[error("rows too long")]
-    Long,
-    /// Standard output failed, or took nothing.
-    #[error("rows cannot be written")]
-    Write,
-    /// A growth was refused.
-    #[error("out of memory")]
-    Memory,
-}
-
-fn read_rows<R: Read>(alloc: Global, reader: &mut R) -> Result<Vec<u8>, RowsFault>
-    ensures { IfOk result (λ rows. length rows.items ≤ 1000000) }
-{
-    let mut rows = Vec::new(alloc);
-    if reader.read_to_end(&mut rows).is_err() {
-        return Err(RowsFault::Read);
-    }
-    if rows.len() > ROWS_BYTES {
-        return Err(RowsFault::Long);
-    }
-    Ok(rows)
-}
-
-fn play(rt: &HostRuntime) -> Result<(), RowsFault> {
-    let rows = read_rows(rt.alloc(), &mut rt.reader())?;
-    match played(rt.alloc(), &rows) {
-        Ok(out) => write_whole(&mut io::writer(rt), &out).map_err(|_| RowsFault::Write),
-        Err(_) => Err(RowsFault::Memory),
-    }
-}
 
 fn main(rt: HostRuntime) -> ExitCode {
-    match play(&rt) {
-        Ok(()) => ExitCode::SUCCESS,
-        Err(fault) => {
-            let _ = eprintln!(rt; "session_rows: {fault}");
-            ExitCode::FAILURE
-        }
-    }
+    run::<Row>(&rt, "session_rows")
 }

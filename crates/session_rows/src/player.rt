@@ -1,11 +1,12 @@
-// The rows, line by line.
-use crate::answers::{INDENT, Sent, add_course, add_line, add_session};
+// A row, line by line.
+use crate::answers::{Sent, add_course, add_session};
 use crate::bytes::add_bytes;
 use crate::course::Counts;
 use crate::marks::{Mark, read_mark};
 use crate::stage::Stage;
-use line_words::{behind, first_line};
+use line_words::behind;
 use ring_records::{Msg, Refusal, Reply};
+use row_player::{INDENT, Player, add_line};
 use std::alloc::{AllocError, Global};
 
 /// How many nodes the ring of a row has that tells none.
@@ -16,7 +17,7 @@ const SENT_BYTES: usize = 1_000_000;
 
 /// The node of the row; the session that is gathered, by its lines and their bytes; and how many bytes marks may send.
 #[derive(Drop)]
-struct Player<'a> {
+struct Playing<'a> {
     stage: Stage,
     lines: Vec<Sent<'a>>,
     input: Vec<u8>,
@@ -67,9 +68,9 @@ fn add_told(
     add_line(out, INDENT, text.as_bytes())
 }
 
-impl<'a> Player<'a> {
-    fn new(alloc: Global) -> Player<'a> {
-        Player {
+impl<'a> Playing<'a> {
+    fn new(alloc: Global) -> Playing<'a> {
+        Playing {
             stage: Stage::new(NODES),
             lines: Vec::new(alloc),
             input: Vec::new(alloc),
@@ -221,49 +222,32 @@ impl<'a> Player<'a> {
         }
     }
 
-    /// Plays a line of the rows: an empty one ends a row, and one that was printed before is left out.
+    /// Plays a line of the row.
     fn play_line(
         &mut self,
         alloc: Global,
         line: &'a [u8],
         out: &mut Vec<u8>,
     ) -> Result<(), AllocError> {
-        if line.starts_with(INDENT) {
-            return Ok(());
-        }
         if let Some(mark) = behind(line, b"! ") {
             return self.play_mark(alloc, line, mark, out);
         }
-        if !line.is_empty() && !line.starts_with(b"#") {
+        if !line.starts_with(b"#") {
             return self.gathers(line);
         }
         self.end_session(alloc, out)?;
-        if line.is_empty() {
-            self.stage = Stage::new(NODES);
-        }
         add_line(out, b"", line)
-    }
-
-    fn play_lines(
-        &mut self,
-        alloc: Global,
-        rows: &'a [u8],
-        out: &mut Vec<u8>,
-    ) -> Result<(), AllocError> {
-        let mut rest = rows;
-        while !rest.is_empty() {
-            let (line, after) = first_line(rest);
-            self.play_line(alloc, line, out)?;
-            rest = after;
-        }
-        self.end_session(alloc, out)
     }
 }
 
-/// The rows, with what their lines are answered now.
-pub fn played(alloc: Global, rows: &[u8]) -> Result<Vec<u8>, AllocError> {
-    let mut out = Vec::new(alloc);
-    let mut player = Player::new(alloc);
-    player.play_lines(alloc, rows, &mut out)?;
-    Ok(out)
+pub struct Row;
+
+impl Player for Row {
+    fn play_row(alloc: Global, lines: &[&[u8]], out: &mut Vec<u8>) -> Result<(), AllocError> {
+        let mut playing = Playing::new(alloc);
+        for line in lines {
+            playing.play_line(alloc, line, out)?;
+        }
+        playing.end_session(alloc, out)
+    }
 }

@@ -8,12 +8,13 @@ use Rattle.std.proofs.lemmas.Option.{same_Some}
 use Rattle.ring_records.specs.declared.input.Input.{Input}
 use Rattle.ring_records.specs.declared.refusal.Refusal.{Refusal}
 use Rattle.ring_records.specs.declared.refusal.Refusal.TheVariants.{BadNumber, Failed, Limit}
-use Rattle.group_commit.specs.Desk.{DeskKept, kept_at, landed, launched, launched_all, needs_checkpoint, next_area, IsHere, IsSealed}
+use Rattle.group_commit.specs.Desk.{DeskKept, kept_at, landed, launched, IsHere, IsSealed}
+use Rattle.group_commit.specs.Launching.{launched_all, needs_checkpoint, next_area}
 use Rattle.group_commit.specs.Ticket.{TicketView}
 use Rattle.ring_records.specs.Answer.{Answered}
 use Rattle.ring_records.specs.States.{NodeState, is_idle, opened}
 use Rattle.ring_records.proofs.States.{idle-base}
-use Rattle.node_store.specs.State.{next_flight, settled_base}
+use Rattle.node_store.specs.Flying.{next_flight, settled_base}
 
 one_more : (o : Option Input) → length (cons_option o []) ≤ 1
 one_more None = omega arith

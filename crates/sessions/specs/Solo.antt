@@ -6,7 +6,7 @@ use Rattle.gated_journal.specs.Unread.{IsFault}
 use Rattle.group_commit.specs.Desk.{DeskKept, answered, seen}
 use Rattle.group_commit.specs.Past.{IsPast}
 use Rattle.node_store.specs.Node.{desk_of, member_of, state_of, device_of}
-use Rattle.node_store.specs.State.{settled_base}
+use Rattle.node_store.specs.Flying.{settled_base}
 use Rattle.node_store.specs.declared.node.Node.{Node}
 use Rattle.ring_records.specs.States.{gained_by, opened}
 use Rattle.ring_records.specs.declared.input.Input.{Input}

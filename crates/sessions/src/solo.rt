@@ -5,7 +5,7 @@ ghost use Rattle.gated_journal.specs.Unread.{IsFault};
 ghost use Rattle.group_commit.specs.Desk.{ended, IsHere};
 ghost use Rattle.group_commit.specs.Ticket.{shown};
 ghost use Rattle.node_store.specs.Node as nodes;
-ghost use Rattle.node_store.specs.State.{settled_base};
+ghost use Rattle.node_store.specs.Flying.{settled_base};
 ghost use Rattle.ring_records.specs.Answer.{Answered};
 ghost use Rattle.ring_records.specs.States.{is_idle, opened};
 ghost use Rattle.ring_records.specs.Message.{is_outside};

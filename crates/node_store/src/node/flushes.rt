@@ -7,9 +7,11 @@ ghost use Rattle.ring_records.specs.States.{durable_in, flying_in};
 ghost use Rattle.gated_journal.specs.Areas.{AllReadAs};
 ghost use Rattle.gated_journal.specs.Reading.{device_size};
 ghost use Rattle.gated_journal.specs.Unread.{IsFault};
-ghost use Rattle.group_commit.specs.Desk.{seen, launched, landed, needs_checkpoint};
+ghost use Rattle.group_commit.specs.Desk.{seen, launched, landed};
+ghost use Rattle.group_commit.specs.Launching.{needs_checkpoint};
 ghost use Rattle.group_commit.specs.Past.{IsPast};
-ghost use Rattle.node_store.specs.State.{MayBeLeft, durable_held, flown_next, next_flight, until};
+ghost use Rattle.node_store.specs.State.{MayBeLeft, durable_held, until};
+ghost use Rattle.node_store.specs.Flying.{flown_next, next_flight};
 
 use crate::node::Node;
 use crate::node::rounds::settle;

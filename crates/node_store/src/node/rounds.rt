@@ -1,6 +1,7 @@
 // A round of a node: what flies becomes durable, a batch or a checkpoint.
 ghost use Rattle.std.specs.Prelude.{◌≡◌, ◌-◌, List, true, false, IfOk, IfErr, IsOk, OnOk, OnErr};
-ghost use Rattle.disk_model.specs.Disk.{HasCause, LeavesOnly, Reaches};
+ghost use Rattle.disk_model.specs.Disk.{LeavesOnly, Reaches};
+ghost use Rattle.disk_model.specs.Calls.{HasCause};
 ghost use Rattle.ring_records.specs.declared.input.Input.{Input};
 ghost use Rattle.ring_records.specs.Release.{packets, notices};
 ghost use Rattle.ring_records.specs.States.{durable_in, flying_in};
@@ -10,7 +11,8 @@ ghost use Rattle.gated_journal.specs.Journal.{device_of};
 ghost use Rattle.gated_journal.specs.Reading.{device_size};
 ghost use Rattle.group_commit.specs.Desk.{IsFlying, landed, seen};
 ghost use Rattle.group_commit.specs.Past.{IsPast};
-ghost use Rattle.node_store.specs.Standing.{Flies, Stands};
+ghost use Rattle.node_store.specs.Standing.{Stands};
+ghost use Rattle.node_store.specs.Flying.{Flies};
 ghost use Rattle.node_store.specs.State.{MayBeLeft, flown_held};
 
 use disk_model::Device;

@@ -6,8 +6,8 @@ use Rattle.bench.proofs.hub_part.one_hub.Given as goal
 abbrev pub ghosts-on_hub-A-Ledger : goal.ghosts-on_hub-A-Ledger
 ghosts-on_hub-A-Ledger g a = record { name = a.blanks.accepted.name; parts = a.blanks.accepted.parts }
 
-abbrev pub ghosts-on_hub-A-Node : goal.ghosts-on_hub-A-Node
-ghosts-on_hub-A-Node g a = record {
+abbrev pub ghosts-on_hub-A-NodeLedger : goal.ghosts-on_hub-A-NodeLedger
+ghosts-on_hub-A-NodeLedger g a = record {
   member = a.desk.view.member;
   opening = a.desk.opening;
   opened = a.desk.opening.inputs + length a.desk.view.state.inputs;

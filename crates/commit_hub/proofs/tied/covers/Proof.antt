@@ -97,13 +97,13 @@ module _ {M : Type 1} {𝓤 : Ura M} (𝓛 : Logic 𝓤) (𝓜 : Model 𝓤 𝓛
         keep ! (3 ∷ 4 ∷ 7 ∷ 0 ∷ 1 ∷ 5 ∷ 6 ∷ []) $ enter ! 𝓣.C 𝓣.Λ function (u ∷ v ∷ []) _ $ alloc_all ! (λ l. pass_all ! refl ((tt, tt), ((tt, tt), tt)) $
         opens ! tt A r.ref_ptr.0 r.ref_ptr.1 (λ cs. move ! (5 ∷ 6 ∷ 7 ∷ []) $ opens ! tt B s.ref_ptr.0 s.ref_ptr.1 (λ ds. move ! (1 ∷ []) $ fsplit ! $ move ! (7 ∷ []) $ fsplit ! $ move ! (1 ∷ 3 ∷ []) $
         rewrite ! 1 (λ (k : ℕ). ‵ (begun_owns k b.inputs)) {x = a.name.history} {y = b.history} named refl $
-        use2 𝓛 (given (IsPrefix b.inputs a.durable.inputs) (‵ (known_owns a.name a.durable) ⊛ ‵ (begun_owns a.name.history b.inputs))) (steps.bounds 𝓛 a.name a.durable b.inputs) $
+        use2 𝓛 (given (IsPrefix b.inputs a.knows.durable.inputs) (‵ (known_owns a.name a.knows) ⊛ ‵ (begun_owns a.name.history b.inputs))) (steps.bounds 𝓛 a.name a.knows b.inputs) $
         learn ! (λ begins. split ! $ rewrite ! 1 (λ (k : ℕ). ‵ (begun_owns k b.inputs)) {x = b.history} {y = a.name.history} (sym named) refl $ move ! (2 ∷ 0 ∷ []) $ fjoin ! $ move ! (2 ∷ 1 ∷ []) $ fjoin ! $
         move ! (2 ∷ 0 ∷ 3 ∷ 4 ∷ 5 ∷ []) $ closes ! tt B b ds s.ref_ptr.0 s.ref_ptr.1 $ move ! (4 ∷ 3 ∷ 5 ∷ 6 ∷ 7 ∷ []) $ closes ! tt A a cs r.ref_ptr.0 r.ref_ptr.1 $
         sets ! (of_opd ! (unit_lit !)) refl (tt, tt) $ returns ! (look_at ! 0 refl) $ free_all ! refl $ suffices ! _ (ends_at 𝓛 ended stayed held (At passed) vunit tt (a, (b, tt)) (tt, (tt, tt))) $
         feq_i ! (List Val) (u ∷ []) (u ∷ []) refl $ fjoin3 ! $ move ! (2 ∷ 3 ∷ []) $ feq_i ! (List Val) (v ∷ []) (v ∷ []) refl $ fjoin3 ! $ nothing ! $ move ! (1 ∷ 0 ∷ []) $ fjoin ! $ move ! (1 ∷ 0 ∷ []) $ fjoin ! $
         feq_i ! (List Val) (vunit ∷ []) (vunit ∷ []) refl $ move ! (1 ∷ 0 ∷ []) $ join ! $ move ! (2 ∷ 3 ∷ []) $ join ! $ move ! (2 ∷ 0 ∷ []) $ join ! $ join ! $ frame ! $
-        by ! (tells_all 𝓤 (IsPrefix b.inputs a.durable.inputs ∷ (a ≡ a) ∷ (b ≡ b) ∷ []) (begins, (refl, refl))))))))
+        by ! (tells_all 𝓤 (IsPrefix b.inputs a.knows.durable.inputs ∷ (a ≡ a) ∷ (b ≡ b) ∷ []) (begins, (refl, refl))))))))
 
   meets : Meets 𝓛 ended.signature (WpFn 𝓤 H 𝓣.C 𝓣.Λ function) (closing 𝓛 ended held)
   unfolding tables_of contract.CodeStep.c_Tables

@@ -29,7 +29,7 @@ use denote.Triple.Table.{entered}
 use denote.Triple.Walked.{Stays, stay_dropped, stay_ref, walk_of, ends_at, Goes-dropped, Goes-ref, walk_Meets}
 use contract.CodeStep
 use Rattle.core.proofs.ledger.Walks.{hears, hears_last, tells_all}
-use Rattle.commit_hub.specs.Tied.{Durable, durable_part}
+use Rattle.commit_hub.specs.Tied.{TieView, part_of}
 use Rattle.commit_hub.specs.Tied.{held_owns, known_owns}
 use Rattle.commit_hub.specs.contracts.tied.Held as held-half
 use Rattle.commit_hub.specs.contracts.tied.Known as known-half
@@ -100,19 +100,19 @@ module _ {M : Type 1} {𝓤 : Ura M} (𝓛 : Logic 𝓤) (𝓜 : Model 𝓤 𝓛
 
     walks : Goes passed
     walks =
-        let r = z.0.3.0 in let s = z.0.3.1.0 in let all : Durable = durable_part z.0.3.1.1.0.now in let a' : A.Denot = record { marker = a.marker; name = a.name; durable = all } in let b' : B.Denot = record { marker = b.marker; name = b.name; durable = all } in
+        let r = z.0.3.0 in let s = z.0.3.1.0 in let all : TieView = part_of z.0.3.1.1.0.now in let a' : A.Denot = record { marker = a.marker; name = a.name; knows = all } in let b' : B.Denot = record { marker = b.marker; name = b.name; knows = all } in
         qed 𝓛 (((‵ (flft z.0.0.0 z.0.1.0) ⊛ ‵ (flft z.0.0.1.0 z.0.1.1.0) ⊛ ‵ (flft z.0.0.1.1.0 z.0.1.1.1.0) ⊛ ‵ ftrue) ⊛ ‵ args) ∷ raw asked ∷ []) ∵
         move ! (1 ∷ []) $ hears ! (λ named. hears_last ! (λ longer. split ! $ split ! $ move ! (1 ∷ []) $ split ! $ move ! (3 ∷ []) $ fsplit ! $ fsplit3 ! $ drop ! $ move ! (2 ∷ []) $ fsplit ! $ fsplit3 ! $ drop ! $
         keep ! (3 ∷ 4 ∷ 7 ∷ 0 ∷ 1 ∷ 5 ∷ 6 ∷ []) $ enter ! 𝓣.C 𝓣.Λ function (u ∷ v ∷ w ∷ []) _ $ alloc_all ! (λ l. pass_all ! refl ((tt, tt), ((tt, tt), ((tt, tt), tt))) $
         opens ! tt A r.ref_ptr.0 r.ref_ptr.1 (λ cs. move ! (5 ∷ 6 ∷ 7 ∷ []) $ opens ! tt B s.ref_ptr.0 s.ref_ptr.1 (λ ds. move ! (1 ∷ []) $ fsplit ! $ move ! (7 ∷ []) $ fsplit ! $ move ! (3 ∷ 1 ∷ []) $
-        rewrite ! 0 (λ (k : Names). ‵ (known_owns k b.durable)) {x = a.name} {y = b.name} named refl $
-        use2 𝓛 (later (given (b.durable ≡ a.durable) (‵ (known_owns a.name all) ⊛ ‵ (held_owns a.name all)))) (steps.sets 𝓛 a.name a.durable b.durable all longer) $
+        rewrite ! 0 (λ (k : Names). ‵ (known_owns k b.knows)) {x = a.name} {y = b.name} named refl $
+        use2 𝓛 (later (given (b.knows ≡ a.knows) (‵ (known_owns a.name all) ⊛ ‵ (held_owns a.name all)))) (steps.sets 𝓛 a.name a.knows b.knows all longer) $
         await ! tt $ learn ! (λ seen. split ! $ rewrite ! 0 (λ (k : Names). ‵ (known_owns k all)) {x = b.name} {y = a.name} (sym named) refl $ move ! (1 ∷ 0 ∷ []) $ move ! (2 ∷ 0 ∷ []) $ fjoin ! $ move ! (2 ∷ 1 ∷ []) $ fjoin ! $
         move ! (2 ∷ 0 ∷ 3 ∷ 4 ∷ 5 ∷ []) $ closes ! tt B b' ds s.ref_ptr.0 s.ref_ptr.1 $ move ! (4 ∷ 3 ∷ 5 ∷ 6 ∷ 7 ∷ []) $ closes ! tt A a' cs r.ref_ptr.0 r.ref_ptr.1 $
         sets ! (of_opd ! (unit_lit !)) refl (tt, tt) $ returns ! (look_at ! 0 refl) $ free_all ! refl $ suffices ! _ (ends_at 𝓛 ended stayed held (At passed) vunit tt (a', (b', (tt, tt))) (tt, (tt, (tt, tt)))) $
         feq_i ! (List Val) (u ∷ []) (u ∷ []) refl $ fjoin3 ! $ move ! (2 ∷ 3 ∷ []) $ feq_i ! (List Val) (v ∷ []) (v ∷ []) refl $ fjoin3 ! $ nothing ! $ nothing ! $ fjoin ! $ move ! (1 ∷ 0 ∷ []) $ fjoin ! $ move ! (1 ∷ 0 ∷ []) $ fjoin ! $
         feq_i ! (List Val) (vunit ∷ []) (vunit ∷ []) refl $ move ! (1 ∷ 0 ∷ []) $ join ! $ move ! (2 ∷ 3 ∷ []) $ join ! $ move ! (2 ∷ 0 ∷ []) $ join ! $ join ! $ frame ! $
-        by ! (tells_all 𝓤 ((b.durable ≡ a.durable) ∷ (a'.durable ≡ all) ∷ (b'.durable ≡ all) ∷ (a'.name ≡ a.name) ∷ (b'.name ≡ b.name) ∷ [])
+        by ! (tells_all 𝓤 ((b.knows ≡ a.knows) ∷ (a'.knows ≡ all) ∷ (b'.knows ≡ all) ∷ (a'.name ≡ a.name) ∷ (b'.name ≡ b.name) ∷ [])
         (seen, (refl, (refl, (refl, refl)))))))))))
 
   meets : Meets 𝓛 ended.signature (WpFn 𝓤 H 𝓣.C 𝓣.Λ function) (closing 𝓛 ended held)

@@ -54,7 +54,7 @@ module _ {M : Type 1} {𝓤 : Ura M} (𝓛 : Logic 𝓤) (mem : Memory → SProp
         qed 𝓛 (raw (alive 𝓛 function.signature tt tt) ∷ ‵ (owns [] tt tt) ∷ []) ∵ enter ! C Λ code.function [] _ $
         alloc_all ! (λ l. pass_all ! refl tt $
         use0 𝓛 (later (some (λ (γ : Names). ‵ (fsep (known_owns γ none_durable) (held_owns γ none_durable))))) (steps.begins 𝓛) $ await ! tt $ pick ! (λ γ. fsplit ! $
-        let held₀ : A.Denot = record { marker = record {}; name = γ; durable = none_durable } in let known₀ : B.Denot = record { marker = record {}; name = γ; durable = none_durable } in
+        let held₀ : A.Denot = record { marker = record {}; name = γ; knows = none_durable } in let known₀ : B.Denot = record { marker = record {}; name = γ; knows = none_durable } in
         sets ! (agg ! (no_more !)) refl (tt, tt) $ sets ! (agg ! (and_then ! (get ! refl) (no_more !))) refl (tt, (tt, tt)) $ sets ! (agg ! (no_more !)) refl (tt, tt) $ sets ! (agg ! (and_then ! (get ! refl) (no_more !))) refl (tt, (tt, tt)) $
         sets ! (agg ! (and_then ! (get ! refl) (and_then ! (get ! refl) (no_more !)))) refl (tt, ((tt, tt), ((tt, tt), tt))) $
         returns ! (look_at ! 0 refl) $ free_all ! refl $
@@ -64,7 +64,7 @@ module _ {M : Type 1} {𝓤 : Ura M} (𝓛 : Logic 𝓤) (mem : Memory → SProp
         nothing ! $ move ! (1 ∷ 2 ∷ 0 ∷ []) $ fjoin3 ! $ feq_i ! (List Val) (v ∷ []) (v ∷ []) refl $ fjoin ! $
         fpack ! (Valss (A ∷ B ∷ [])) (λ vss. fsep (feq (List Val) (v ∷ []) (vstruct (of_list (vss.0 ++ (vss.1.0 ++ []))) ∷ [])) (owns (A ∷ B ∷ []) (held₀, (known₀, tt)) vss)) (token ∷ [], (token ∷ [], tt)) $
         move ! (2 ∷ 0 ∷ 1 ∷ []) $ join ! $ move ! (1 ∷ 0 ∷ []) $ join ! $ frame ! $
-        by ! (tells_all 𝓤 ((known₀.name ≡ held₀.name) ∷ (held₀.durable ≡ none_durable) ∷ (known₀.durable ≡ none_durable) ∷ []) (refl, (refl, refl)))))
+        by ! (tells_all 𝓤 ((known₀.name ≡ held₀.name) ∷ (held₀.knows ≡ none_durable) ∷ (known₀.knows ≡ none_durable) ∷ []) (refl, (refl, refl)))))
 
     walks : Walks 𝓛 function.ended tt (WpFn 𝓤 H C Λ code.function) (function.clauses 𝓛 mem run)
     walks =

@@ -85,14 +85,14 @@ module _ {M : Type 1} {𝓤 : Ura M} (𝓛 : Logic 𝓤) (𝓜 : Model 𝓤 𝓛
 
     walks : Goes passed
     walks =
-        let r = z.0.3.0 in let new : B.Denot = record { marker = record {}; history = a.name.history; inputs = a.durable.inputs } in
+        let r = z.0.3.0 in let new : B.Denot = record { marker = record {}; history = a.name.history; inputs = a.knows.durable.inputs } in
         qed 𝓛 (((‵ (flft z.0.0.0 z.0.1.0) ⊛ ‵ ftrue) ⊛ ‵ args) ∷ raw asked ∷ []) ∵ split ! $ split ! $ move ! (2 ∷ []) $ fsplit ! $ fsplit3 ! $ keep ! (1 ∷ 2 ∷ 4 ∷ []) $
         enter ! 𝓣.C 𝓣.Λ function (u ∷ []) _ $ alloc_all ! (λ l. pass_all ! refl ((tt, tt), tt) $ opens ! tt A r.ref_ptr.0 r.ref_ptr.1 (λ cs. move ! (1 ∷ []) $ fsplit ! $ move ! (1 ∷ []) $
-        use1 𝓛 (‵ (held_owns a.name a.durable) ⊛ ‵ (begun_owns a.name.history a.durable.inputs)) (steps.tells 𝓛 a.name a.durable) $
+        use1 𝓛 (‵ (held_owns a.name a.knows) ⊛ ‵ (begun_owns a.name.history a.knows.durable.inputs)) (steps.tells 𝓛 a.name a.knows) $
         split ! $ move ! (2 ∷ 0 ∷ []) $ fjoin ! $ move ! (2 ∷ 0 ∷ 3 ∷ 4 ∷ 5 ∷ []) $ closes ! tt A a cs r.ref_ptr.0 r.ref_ptr.1 $ sets ! (agg ! (no_more !)) refl (tt, tt) $ sets ! (agg ! (and_then ! (get ! refl) (no_more !))) refl (tt, (tt, tt)) $
         returns ! (look_at ! 0 refl) $ free_all ! refl $ suffices ! _ (ends_at 𝓛 ended stayed held (At passed) token new (a, tt) (tt, tt)) $
         feq_i ! (List Val) (u ∷ []) (u ∷ []) refl $ fjoin3 ! $ nothing ! $ move ! (1 ∷ 0 ∷ []) $ fjoin ! $ move ! (2 ∷ []) $ use0 𝓛 (‵ ((Mark (mark-token.the_type).name [] unit).own_val (tt, tt) (token ∷ []))) (made (mark-token.the_type).name [] unit 𝓛) $ fjoin ! $ move ! (1 ∷ 0 ∷ []) $ join ! $ move ! (1 ∷ 2 ∷ []) $ join ! $ join ! $ frame ! $
-        by ! (tells_all 𝓤 ((new.history ≡ a.name.history) ∷ (new.inputs ≡ a.durable.inputs) ∷ (a ≡ a) ∷ []) (refl, (refl, refl)))))
+        by ! (tells_all 𝓤 ((new.history ≡ a.name.history) ∷ (new.inputs ≡ a.knows.durable.inputs) ∷ (a ≡ a) ∷ []) (refl, (refl, refl)))))
 
   meets : Meets 𝓛 ended.signature (WpFn 𝓤 H 𝓣.C 𝓣.Λ function) (closing 𝓛 ended held)
   unfolding tables_of contract.CodeStep.c_Tables

@@ -1,5 +1,5 @@
 use Rattle.std.proofs.Common.{rules, ℕ, List, sym, subst, arith}
-use Rattle.disk_model.specs.Disk.{IsPart}
+use Rattle.disk_model.specs.Calls.{IsPart}
 use Rattle.gated_journal.proofs.AreaHeads.{read_front, read_none}
 use Rattle.gated_journal.proofs.area.head_bytes.Goals as goal
 use Rattle.gated_journal.proofs.area.head_bytes.Goals.{then-start-size+in_default, else-start-size}

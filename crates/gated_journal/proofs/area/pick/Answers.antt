@@ -1,6 +1,7 @@
 use Rattle.std.proofs.Common.{inl, ◌≡◌, ◌+◌, ℕ, List, refl, sym, ◌∙◌, subst, arith}
 use Rattle.gated_journal.specs.Areas.{AreAreas}
-use Rattle.gated_journal.specs.Choose.{IsHeadOf, IsChosen, start_of, other_of}
+use Rattle.gated_journal.specs.Choose.{IsChosen}
+use Rattle.gated_journal.specs.InUse.{IsHeadOf, start_of, other_of}
 use Rattle.gated_journal.specs.declared.area.Area.{Area}
 use Rattle.gated_journal.specs.declared.area.Area.TheVariants.{A, B}
 use Rattle.gated_journal.proofs.Results.{not_both, on_value, on_err}

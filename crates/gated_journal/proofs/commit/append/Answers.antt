@@ -1,7 +1,7 @@
 use Rattle.std.proofs.Common.{◌+◌, length}
 use Rattle.disk_model.proofs.Changed.{torn_changes}
 use Rattle.disk_model.proofs.Moments.{weaken, joins}
-use Rattle.gated_journal.specs.Frames.{Appends}
+use Rattle.gated_journal.specs.AreaWritten.{Appends}
 use Rattle.gated_journal.proofs.Behind.{first_moment, second_moment, opened}
 use Rattle.gated_journal.proofs.Results.{on_ok}
 use Rattle.gated_journal.proofs.commit.append.Goals as goal

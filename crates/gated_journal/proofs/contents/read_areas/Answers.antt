@@ -1,6 +1,6 @@
 use Rattle.std.proofs.Common.{inl, inr, ⊎_elim, ℕ, length, subst, sym}
 use Rattle.disk_model.specs.Disk.{Disk, Reach, Reaches}
-use Rattle.gated_journal.specs.Choose.{IsInUseBy}
+use Rattle.gated_journal.specs.InUse.{IsInUseBy}
 use Rattle.gated_journal.specs.Damage.{AreAreasUnread}
 use Rattle.gated_journal.specs.Unread.{IsFault}
 use Rattle.gated_journal.proofs.contents.read_areas.Goals as goal

@@ -1,10 +1,12 @@
 use Rattle.std.proofs.Common.{◌≡◌, ◌+◌, ℕ, List, [], ◌∷◌, Bool, nat_lt, sym, ap, subst, arith}
 use Rattle.std.proofs.lemmas.Bool.{lt-ltb, le-ltb}
-use Rattle.disk_model.specs.Disk.{Disk, Puts}
+use Rattle.disk_model.specs.Disk.{Disk}
+use Rattle.disk_model.specs.Calls.{Puts}
 use Rattle.ring_records.specs.Admission.{newest}
 use Rattle.ring_records.specs.Member.{member}
 use Rattle.ring_records.specs.Summary.{empty}
-use Rattle.gated_journal.specs.Areas.{new_areas, ReadsAt, IsGate}
+use Rattle.gated_journal.specs.Areas.{ReadsAt}
+use Rattle.gated_journal.specs.AreaWritten.{new_areas, IsGate}
 use Rattle.gated_journal.specs.Reading.{fresh_area}
 use Rattle.gated_journal.proofs.AreaFormatted.{laid_short, laid_long, gate_short, gate_long}
 use Rattle.gated_journal.proofs.Costs.{in_range}

@@ -3,7 +3,7 @@ use Rattle.disk_model.specs.Disk.{Reach, Reaches}
 use Rattle.ring_records.specs.declared.refusal.Refusal.{Refusal}
 use Rattle.ring_records.specs.Member.{member}
 use Rattle.gated_journal.specs.Areas.{ReadsAt}
-use Rattle.gated_journal.specs.Choose.{reading_of}
+use Rattle.gated_journal.specs.InUse.{reading_of}
 use Rattle.gated_journal.specs.Damage.{AreAreasUnread}
 use Rattle.gated_journal.specs.Reading.{HasHeader}
 use Rattle.gated_journal.specs.Unread.{header_at, IsFault, IsUnread}

@@ -1,5 +1,5 @@
 use Rattle.std.proofs.Common.{rules, ◌≡◌, ◌≤◌, inr, ℕ, List, length, sym, ◌∙◌, ap, subst, arith}
-use Rattle.disk_model.specs.Disk.{IsPart}
+use Rattle.disk_model.specs.Calls.{IsPart}
 use Rattle.disk_model.proofs.Moments.{weaken, joins}
 use Rattle.gated_journal.specs.Unread.{head_at, header_at}
 use Rattle.gated_journal.proofs.Head.{header_same, marked_there}

@@ -2,7 +2,7 @@ use Rattle.std.proofs.Common.{◌≡◌, ◌+◌, inl, inr, ⊎_elim, ℕ, [], �
 use Rattle.std.proofs.lemmas.Bool.{cases_eq}
 use Rattle.disk_model.proofs.Changed.{torn_changes, puts_changes}
 use Rattle.disk_model.proofs.Moments.{weaken}
-use Rattle.gated_journal.specs.Areas.{ReadsAtOneOf}
+use Rattle.gated_journal.specs.AreaWritten.{ReadsAtOneOf}
 use Rattle.gated_journal.proofs.AreaShut.{still_old, now_new, gate_behind}
 use Rattle.gated_journal.proofs.Results.{on_ok}
 use Rattle.gated_journal.proofs.replace.open_area.Goals as goal

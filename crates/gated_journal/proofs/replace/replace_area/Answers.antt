@@ -2,7 +2,7 @@ use Rattle.std.proofs.Common.{◌+◌, ◌≤◌, length, inl, ap, arith}
 use Rattle.disk_model.proofs.Moments.{weaken, joins}
 use Rattle.ring_records.specs.Admission.{newest}
 use Rattle.ring_records.specs.Snapshot.{snapshot_len}
-use Rattle.gated_journal.specs.Areas.{ReadsAtOneOf}
+use Rattle.gated_journal.specs.AreaWritten.{ReadsAtOneOf}
 use Rattle.gated_journal.specs.Reading.{fresh_area}
 use Rattle.gated_journal.proofs.AreaStaged.{length-new_area}
 use Rattle.gated_journal.proofs.Results.{on_ok}

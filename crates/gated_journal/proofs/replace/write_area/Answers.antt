@@ -1,9 +1,11 @@
 use Rattle.std.proofs.Common.{◌≡◌, ◌+◌, ℕ, List, Bool, true, [], ◌∷◌, ◌++◌, length, sym, ◌∙◌, ap, subst}
-use Rattle.disk_model.specs.Disk.{Disk, IsSynced, IsTorn, Changes, Puts}
+use Rattle.disk_model.specs.Disk.{Disk, IsSynced, IsTorn}
+use Rattle.disk_model.specs.Calls.{Changes, Puts}
 use Rattle.disk_model.proofs.Changed.{torn_changes, puts_changes}
 use Rattle.disk_model.proofs.Moments.{weaken, joins}
 use Rattle.ring_records.specs.Member.{Member}
-use Rattle.gated_journal.specs.Areas.{ReadsAt, IsGate, first_write}
+use Rattle.gated_journal.specs.Areas.{ReadsAt}
+use Rattle.gated_journal.specs.AreaWritten.{IsGate, first_write}
 use Rattle.gated_journal.specs.Reading.{Reading}
 use Rattle.gated_journal.proofs.AreaShut.{closing, closed_then, writing}
 use Rattle.gated_journal.proofs.AreaStaged.{staged_by}

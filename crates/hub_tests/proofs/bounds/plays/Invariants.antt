@@ -6,5 +6,5 @@ use Rattle.hub_tests.proofs.bounds.plays.Given as goal
 abbrev pub ghosts-on_hub-A-Ledger : goal.ghosts-on_hub-A-Ledger
 ghosts-on_hub-A-Ledger g a = record { name = a.blanks.accepted.name; parts = a.blanks.accepted.parts }
 
-abbrev pub ghosts-on_hub-A-Node : goal.ghosts-on_hub-A-Node
-ghosts-on_hub-A-Node g a = record { member = a.desk.view.member; opening = a.desk.opening; opened = a.desk.opening.inputs + length a.desk.view.state.inputs; tied = a.blanks.held.name }
+abbrev pub ghosts-on_hub-A-NodeLedger : goal.ghosts-on_hub-A-NodeLedger
+ghosts-on_hub-A-NodeLedger g a = record { member = a.desk.view.member; opening = a.desk.opening; opened = a.desk.opening.inputs + length a.desk.view.state.inputs; tied = a.blanks.held.name }

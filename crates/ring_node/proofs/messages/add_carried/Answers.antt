@@ -1,7 +1,7 @@
 use Rattle.std.proofs.Common.{arith, ◌+◌, ◌++◌, List, [], length, take, ap, sym, ◌∙◌, append_assoc, length-append}
 use Rattle.std.specs.List.{cons_option}
 use Rattle.ring_records.specs.declared.msg.Msg.{Msg}
-use Rattle.ring_records.proofs.LookBack.{IsItem}
+use Rattle.ring_records.proofs.Iteration.{IsItem}
 use Rattle.ring_node.specs.Messages.{message_in, carried_in}
 use Rattle.ring_node.proofs.Sending.{carried-more, carried-within}
 use Rattle.ring_node.proofs.messages.add_carried.Goals as goal

@@ -1,5 +1,5 @@
 use Rattle.std.proofs.Common.{refl, arith}
-use Rattle.ring_records.proofs.LookBack.{costs-item}
+use Rattle.ring_records.proofs.Iteration.{costs-item}
 use Rattle.ring_records.proofs.input.costs_of.Goals as goal
 
 pub loop-input-init : goal.loop-input-init

@@ -1,5 +1,5 @@
 use Rattle.std.proofs.Common.{◌+◌, ◌-◌, sym, ap, ◌∙◌, arith}
-use Rattle.ring_records.specs.Record.{key_at}
+use Rattle.ring_records.specs.RecordReading.{key_at}
 use Rattle.ring_records.specs.SnapshotRead.{items_at, behind_these}
 use Rattle.ring_records.proofs.ItemsRead.{one_read, none_read, all_read, broken}
 use Rattle.ring_records.proofs.snapshot_read.keys_of.Goals as goal

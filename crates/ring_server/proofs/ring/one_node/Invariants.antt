@@ -1,5 +1,5 @@
 use Rattle.std.specs.Prelude.{◌+◌, length}
-use Rattle.ring_server.specs.Fits.{kept_by}
+use Rattle.ring_start.specs.Fits.{kept_by}
 use Rattle.ring_server.proofs.ring.one_node.Given as goal
 
 -- the ledger is named by its page, and what it names by the desk
@@ -7,8 +7,8 @@ use Rattle.ring_server.proofs.ring.one_node.Given as goal
 abbrev pub ghosts-serve_node-A-Ledger : goal.ghosts-serve_node-A-Ledger
 ghosts-serve_node-A-Ledger g a = record { name = a.site.blanks.accepted.name; parts = a.site.blanks.accepted.parts }
 
-abbrev pub ghosts-serve_node-A-Node : goal.ghosts-serve_node-A-Node
-ghosts-serve_node-A-Node g a = record {
+abbrev pub ghosts-serve_node-A-NodeLedger : goal.ghosts-serve_node-A-NodeLedger
+ghosts-serve_node-A-NodeLedger g a = record {
   member = (kept_by a.site.opened).view.member;
   opening = (kept_by a.site.opened).opening;
   opened = (kept_by a.site.opened).opening.inputs + length (kept_by a.site.opened).view.state.inputs;

@@ -10,7 +10,8 @@ use Rattle.gated_journal.specs.Reading.{Reading}
 use Rattle.commit_hub.specs.Holders.{known_by}
 use Rattle.commit_hub.specs.Tied.{Durable, with_area, with_batch}
 use Rattle.commit_hub.specs.Works.{flown_by, summary_by}
-use Rattle.gated_journal.specs.Works.{IsTaken, reading_after, room_after}
+use Rattle.gated_journal.specs.Works.{reading_after}
+use Rattle.gated_journal.specs.WorkTaken.{IsTaken, room_after}
 use Rattle.ring_service.proofs.Next.{counts, has, knows, takes}
 use Rattle.ring_service.proofs.flusher.settle.Goals as goal
 
@@ -18,7 +19,7 @@ pub write-requires-clause-taken : goal.write-requires-clause-taken
 write-requires-clause-taken g c =
     let journal = c.args.journal.now in
     subst (λ (m : Member). IsTaken m (len_of journal) (room_of journal) (layout_of journal) (epoch_of journal) c.args.work) (sym c.requires.member)
-    (takes g.A.Node.member g.A.Node.opening _ _ _ _ _ c.args.work c.requires.inside c.requires.known c.requires.next)
+    (takes g.A.NodeLedger.member g.A.NodeLedger.opening _ _ _ _ _ c.args.work c.requires.inside c.requires.known c.requires.next)
 
 -- a work is a checkpoint where it has a summary
 kind : (w : Work) → is_checkpoint (flown_by w) ≡ is_some (summary_by w)
@@ -40,7 +41,7 @@ pub returns-in-Ok-land-clause-next : goal.returns-in-Ok-land-clause-next
 returns-in-Ok-land-clause-next g c =
     let old = known_by c.args.tie.now in
     let new = known_by c.land.new.tie in
-    knows g.A.Node.member g.A.Node.opening old new c.args.work c.requires.next
+    knows g.A.NodeLedger.member g.A.NodeLedger.opening old new c.args.work c.requires.next
     (subst (λ (n : Numbered). n.snapshot ≡ None → new ≡ with_batch old n.inputs) c.in-Ok.ensures.receipt c.in-Ok-land.ensures.batch)
     (subst (λ (n : Numbered). (bytes : ℕ) → n.snapshot ≡ Some bytes → new ≡ with_area old n.inputs bytes) c.in-Ok.ensures.receipt c.in-Ok-land.ensures.checkpoint)
 
@@ -50,14 +51,22 @@ returns-in-Ok-land-clause-known g c =
     let new = known_by c.land.new.tie in
     let journal = c.args.journal.now in
     let w = c.args.work in
-    let is = knows g.A.Node.member g.A.Node.opening old new w c.requires.next
+    let is = knows g.A.NodeLedger.member g.A.NodeLedger.opening old new w c.requires.next
     (subst (λ (n : Numbered). n.snapshot ≡ None → new ≡ with_batch old n.inputs) c.in-Ok.ensures.receipt c.in-Ok-land.ensures.batch)
     (subst (λ (n : Numbered). (bytes : ℕ) → n.snapshot ≡ Some bytes → new ≡ with_area old n.inputs bytes) c.in-Ok.ensures.receipt c.in-Ok-land.ensures.checkpoint) in
-    let behind = has g.A.Node.member g.A.Node.opening old (len_of journal) (room_of journal) (layout_of journal) (epoch_of journal) w c.requires.based c.requires.known c.requires.next in
+    let behind = has g.A.NodeLedger.member g.A.NodeLedger.opening old (len_of journal) (room_of journal) (layout_of journal) (epoch_of journal) w c.requires.based c.requires.known c.requires.next in
     let room = ap (λ (m : Member). room_after (flown_by w).snapshot m.capacity (costs_of (flown_by w).inputs) (room_of journal)) c.requires.member in
     record {
-      count = c.in-Ok.ensures.len ∙ (counts g.A.Node.member g.A.Node.opening old (len_of journal) (room_of journal) (layout_of journal) (epoch_of journal) w c.requires.known c.requires.next ∙ (behind.count ∙ ap (λ (d : Durable). g.A.Node.opening.inputs + length d.inputs) (sym is)));
-      left = c.in-Ok.ensures.room ∙ (room ∙ (behind.left ∙ ap (λ (d : Durable). g.A.Node.member.capacity - used d.base d.inputs) (sym is)));
+      count = c.in-Ok.ensures.len ∙ (counts g.A.NodeLedger.member g.A.NodeLedger.opening old (len_of journal) (room_of journal) (layout_of journal) (epoch_of journal) w c.requires.known c.requires.next ∙ (behind.count ∙ ap (λ (d : Durable). g.A.NodeLedger.opening.inputs + length d.inputs) (sym is)));
+      left = c.in-Ok.ensures.room ∙ (room ∙ (behind.left ∙ ap (λ (d : Durable). g.A.NodeLedger.member.capacity - used d.base d.inputs) (sym is)));
       form = c.in-Ok.ensures.layout ∙ (behind.form ∙ ap (λ (d : Durable). d.base.layout) (sym is));
       area = c.in-Ok.ensures.epoch ∙ (behind.area ∙ ap (λ (d : Durable). d.base.epoch) (sym is));
     }
+
+-- it flies by the tie, and the hub has not failed
+
+pub unreachable-requires : goal.unreachable-requires
+unreachable-requires g c = c.in-Err-land.ensures.cause (c.requires.flies ∙ sym c.in-Ok.ensures.receipt) c.requires.works
+
+pub unreachable-requires-in-Err-fail : goal.unreachable-requires-in-Err-fail
+unreachable-requires-in-Err-fail g c = c.in-Err-fail.ensures.cause (c.requires.flies ∙ sym c.in-Err.ensures.spoiled)

@@ -8,19 +8,19 @@ use Rattle.ring_service.proofs.Begun.{answers_stay, begins_behind, begins_cut, k
 use Rattle.ring_service.proofs.laws.told_by_a_flusher.Goals as goal
 
 pub returns-clause-rounds : goal.returns-clause-rounds
-returns-clause-rounds g c = begins_behind g.V.Device.disk g.V.Device.clock g.V.Device.left_since g.A.Node.member g.A.Node.opening g.met.V.Device.only_now
+returns-clause-rounds g c = begins_behind g.V.Device.disk g.V.Device.clock g.V.Device.left_since g.A.NodeLedger.member g.A.NodeLedger.opening g.met.V.Device.only_now
 
 pub returns-clause-cut : goal.returns-clause-cut
-returns-clause-cut g c = begins_cut g.V.Device.disk g.V.Device.clock g.V.Device.left_since g.A.Node.member g.A.Node.opening
+returns-clause-cut g c = begins_cut g.V.Device.disk g.V.Device.clock g.V.Device.left_since g.A.NodeLedger.member g.A.NodeLedger.opening
 
 pub returns-clause-sooner : goal.returns-clause-sooner
 returns-clause-sooner g c = known_sooner
 
 pub returns-clause-reply : goal.returns-clause-reply
 returns-clause-reply g c = λ past begun image keep given left answer.
-    answers_stay g.A.Node.member past begun (left_by keep left.state).inputs given (left.begins keep) answer
+    answers_stay g.A.NodeLedger.member past begun (left_by keep left.state).inputs given (left.begins keep) answer
 
 pub returns-clause-window : goal.returns-clause-window
 returns-clause-window g c = λ past begun image keep list packet left shown here.
-    packet_stays g.A.Node.member.node (past ++ begun) (left_by keep left.state).inputs packet (left.begins keep)
-    (window-rests g.A.Node.member.node (past ++ begun) packet (subst (λ (l : List Packet). Contains l packet) shown.packets here))
+    packet_stays g.A.NodeLedger.member.node (past ++ begun) (left_by keep left.state).inputs packet (left.begins keep)
+    (window-rests g.A.NodeLedger.member.node (past ++ begun) packet (subst (λ (l : List Packet). Contains l packet) shown.packets here))

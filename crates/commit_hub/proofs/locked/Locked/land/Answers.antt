@@ -6,9 +6,11 @@ use Rattle.group_commit.specs.Desk.{DeskKept, landed}
 use Rattle.commit_hub.specs.Holders.{known_by}
 use Rattle.ring_records.specs.States.{flying_in}
 use Rattle.group_commit.proofs.Costs.{flown}
-use Rattle.commit_hub.specs.Tied.{Durable, durable_part, with_area, with_batch}
+use Rattle.commit_hub.specs.Tied.{Durable, TieView, durable_part, with_area, with_batch}
 use Rattle.commit_hub.specs.Told.{IsBrought}
 use Rattle.commit_hub.proofs.Batches.{brings, named, released}
+use Rattle.commit_hub.specs.Desks.{launch_refusal}
+use Rattle.commit_hub.proofs.Ties.{as_flies, flies_as, landed_free}
 use Rattle.commit_hub.proofs.Works.{flew_none, flew_some, lands_area, lands_batch}
 use Rattle.commit_hub.proofs.locked.Locked.land.Goals as goal
 
@@ -24,8 +26,11 @@ invariant_of-self-in-Ok g c =
       counted = old.counted ∙ sym (ap (λ (d : DeskKept). d.opening.inputs + length d.view.state.inputs) next);
       first_is = old.first_is;
       spare_is = old.spare_is;
-      named = c.follow.ensures.held_name ∙ old.named;
-      held_is = c.follow.ensures.held;
+      named = c.follow.ensures.held_name ∙ (c.audit.ensures.held_name ∙ old.named);
+      held_is = ap (λ (v : TieView). v.durable) c.follow.ensures.held;
+      flies = ap (λ (v : TieView). v.flying) c.follow.ensures.held;
+      fails = ap (λ (v : TieView). v.failed) c.follow.ensures.held;
+      done = λ done. sym (ap (λ (v : TieView). v.done) c.follow.ensures.held) ∙ done;
       next_is = λ b e. none≢some b (sym (ap (λ (d : DeskKept). d.view.state.checkpoint) next) ∙ e);
     }
 
@@ -34,14 +39,14 @@ follow-requires-clause-longer g c =
     let old = c.args.self.now in
     let s = old.shared.desk.view.state in (
       flying_in s,
-      ap (λ (d : Durable). d.inputs ++ flying_in s) old.held_is ∙ (flown s old.counts ∙ sym (ap (λ (d : DeskKept). (durable_part d).inputs) c.in-Ok.ensures.next)),
+      ap (λ (d : Durable). d.inputs ++ flying_in s) (ap (λ (v : TieView). v.durable) c.audit.ensures.held ∙ old.held_is) ∙ (flown s old.counts ∙ sym (ap (λ (d : DeskKept). (durable_part d).inputs) c.in-Ok.ensures.next)),
     )
 
 pub returns-in-Ok-clause-brought : goal.returns-in-Ok-clause-brought
 returns-in-Ok-clause-brought g c =
     let old = c.args.self.now in
     let desk = old.shared.desk in
-    let since = ap (λ (d : Durable). d.inputs) (c.follow.ensures.equal ∙ old.held_is) in
+    let since = ap (λ (d : Durable). d.inputs) (ap (λ (v : TieView). v.durable) c.audit.ensures.equal ∙ old.held_is) in
     named (λ m opening. IsBrought m opening (known_by c.args.tie.now).inputs (receipted c.args.receipt).inputs c.in-Ok.landed) desk _ _ old.of old.opening
     (brings desk c.land.new.self _ _ c.in-Ok.landed old.counts c.in-Ok.ensures.next c.accepted-accepted.ensures.lawful since
     c.in-Ok.ensures.flying.inputs c.in-Ok.ensures.packets c.in-Ok.ensures.notices)
@@ -62,7 +67,7 @@ returns-in-Ok-clause-batch g c =
     let desk = old.shared.desk in
     λ none.
     let lands = lands_batch desk c.land.new.self (receipted c.args.receipt).inputs (flew_none desk.view.state _ c.in-Ok.ensures.flying.snapshot none) old.counts c.in-Ok.ensures.next c.in-Ok.ensures.flying.inputs in
-    c.follow.ensures.known ∙ (lands ∙ ap (λ (d : Durable). with_batch d (receipted c.args.receipt).inputs) (sym (c.follow.ensures.equal ∙ old.held_is)))
+    ap (λ (v : TieView). v.durable) c.follow.ensures.known ∙ (lands ∙ ap (λ (d : Durable). with_batch d (receipted c.args.receipt).inputs) (sym (ap (λ (v : TieView). v.durable) c.audit.ensures.equal ∙ old.held_is)))
 
 pub returns-in-Ok-clause-checkpoint : goal.returns-in-Ok-clause-checkpoint
 returns-in-Ok-clause-checkpoint g c =
@@ -71,4 +76,22 @@ returns-in-Ok-clause-checkpoint g c =
     λ bytes some.
     let flew = flew_some desk.view.state _ bytes c.in-Ok.ensures.flying.snapshot some in
     let lands = lands_area desk c.land.new.self (receipted c.args.receipt).inputs bytes flew old.next_is old.counts c.in-Ok.ensures.next c.in-Ok.ensures.flying.inputs in
-    c.follow.ensures.known ∙ (lands ∙ ap (λ (d : Durable). with_area d (receipted c.args.receipt).inputs bytes) (sym (c.follow.ensures.equal ∙ old.held_is)))
+    ap (λ (v : TieView). v.durable) c.follow.ensures.known ∙ (lands ∙ ap (λ (d : Durable). with_area d (receipted c.args.receipt).inputs bytes) (sym (ap (λ (v : TieView). v.durable) c.audit.ensures.equal ∙ old.held_is)))
+
+pub returns-in-Ok-clause-flew : goal.returns-in-Ok-clause-flew
+returns-in-Ok-clause-flew g c =
+    let old = c.args.self.now in
+    ap (λ (v : TieView). v.flying) c.audit.ensures.equal ∙ (old.flies ∙ flies_as old.shared.desk _ c.in-Ok.ensures.flying)
+
+pub returns-in-Ok-clause-worked : goal.returns-in-Ok-clause-worked
+returns-in-Ok-clause-worked g c = ap (λ (v : TieView). v.failed) c.audit.ensures.equal ∙ (c.args.self.now.fails ∙ c.in-Ok.ensures.works)
+
+pub returns-in-Ok-clause-free : goal.returns-in-Ok-clause-free
+returns-in-Ok-clause-free g c =
+    ap (λ (v : TieView). launch_refusal v.failed v.flying) c.follow.ensures.known
+    ∙ landed_free c.args.self.now.shared.desk c.land.new.self c.in-Ok.ensures.next c.accepted-accepted.ensures.counts c.in-Ok.ensures.works
+
+pub returns-in-Err-clause-cause : goal.returns-in-Err-clause-cause
+returns-in-Err-clause-cause g c = λ flies works.
+    let old = c.args.self.now in
+    c.in-Err.ensures.foreign.1 (as_flies old.shared.desk _ (sym (ap (λ (v : TieView). v.flying) c.audit.ensures.equal ∙ old.flies) ∙ flies)) (sym (ap (λ (v : TieView). v.failed) c.audit.ensures.equal ∙ old.fails) ∙ works)

@@ -10,5 +10,5 @@ returns-clause-lawful g c =
     let old = c.args.self.now in
     let desk = old.shared.desk in
     let list = c.in_ok-list.list.items in
-    subst (λ (since : List Input). IsWindow g.A.Node.member g.A.Node.opening since list) (sym c.tell.ensures.begun)
+    subst (λ (since : List Input). IsWindow g.A.NodeLedger.member g.A.NodeLedger.opening since list) (sym c.tell.ensures.begun)
     (named (λ m opening. IsWindow m opening (durable_part desk).inputs list) desk _ _ old.of old.opening (is_window list desk c.in_ok-list.ensures.lawful c.in_ok-list.ensures.packets))

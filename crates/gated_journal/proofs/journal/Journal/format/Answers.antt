@@ -3,7 +3,8 @@ use Rattle.ring_records.specs.Admission.{newest}
 use Rattle.ring_records.specs.Member.{member}
 use Rattle.ring_records.specs.Summary.{empty}
 use Rattle.ring_records.proofs.Snapshots.{length-empty}
-use Rattle.gated_journal.specs.Areas.{AreAreas, ReadsAt, IsGate}
+use Rattle.gated_journal.specs.Areas.{AreAreas, ReadsAt}
+use Rattle.gated_journal.specs.AreaWritten.{IsGate}
 use Rattle.gated_journal.specs.Reading.{fresh_area}
 use Rattle.gated_journal.proofs.AreaRest.{all_read, in_use}
 use Rattle.gated_journal.proofs.Costs.{in_range}

@@ -2,8 +2,9 @@ use Rattle.std.proofs.Common.{rules, ◌≡◌, ℕ, List, length, refl, sym, �
 use Rattle.ring_records.specs.Admission.{costs_of}
 use Rattle.ring_records.specs.Member.{member}
 use Rattle.ring_records.specs.Snapshot.{snapshot_len}
-use Rattle.gated_journal.specs.Areas.{ReadsAt, IsGate}
-use Rattle.gated_journal.specs.Choose.{reading_of}
+use Rattle.gated_journal.specs.Areas.{ReadsAt}
+use Rattle.gated_journal.specs.AreaWritten.{IsGate}
+use Rattle.gated_journal.specs.InUse.{reading_of}
 use Rattle.gated_journal.proofs.AreaBeside.{start_low}
 use Rattle.gated_journal.proofs.AreaKept.{base_few, behind_base, base_sound}
 use Rattle.gated_journal.proofs.AreaRest.{all_read, in_use}

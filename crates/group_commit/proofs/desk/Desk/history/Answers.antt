@@ -1,7 +1,8 @@
 use Rattle.std.proofs.Common.{List, subst}
 use Rattle.ring_records.specs.declared.input.Input.{Input}
-use Rattle.ring_records.specs.Admission.{IsLawful}
-use Rattle.ring_records.specs.States.{IsNodeState, IsLawfulState, launched_base}
+use Rattle.ring_records.specs.Lawful.{IsLawful}
+use Rattle.ring_records.specs.States.{launched_base}
+use Rattle.ring_records.specs.Lawful.{IsNodeState, IsLawfulState}
 use Rattle.group_commit.specs.Desk.{DeskKept, seen}
 use Rattle.group_commit.specs.Past.{IsPast}
 use Rattle.group_commit.proofs.Inside.{member_in, state_in}

@@ -4,7 +4,8 @@ use Rattle.ring_records.specs.Known.{after}
 use Rattle.ring_records.specs.States.{launched_base}
 use Rattle.gated_journal.specs.Batch.{Numbered, numbered}
 use Rattle.gated_journal.specs.Frames.{AreSuited}
-use Rattle.group_commit.specs.Desk.{DeskKept, needs_checkpoint}
+use Rattle.group_commit.specs.Desk.{DeskKept}
+use Rattle.group_commit.specs.Launching.{needs_checkpoint}
 use Rattle.group_commit.specs.Kept.{state_with}
 use Rattle.group_commit.specs.declared.desk.Desk.TheInside.{Inside}
 use Rattle.group_commit.specs.Opening.{waits_for_area}

@@ -1,7 +1,7 @@
 use Rattle.std.proofs.Common.{◌∙◌, ◌&&◌, nat_lt, sym, ap, subst}
 use Rattle.ring_records.specs.Admission.{newest}
 use Rattle.node_core.specs.Core.{CoreView}
-use Rattle.group_commit.specs.Desk.{MayRenew}
+use Rattle.group_commit.specs.Launching.{MayRenew}
 use Rattle.group_commit.proofs.Inside.{shown_by}
 use Rattle.group_commit.proofs.Since.{may_renew}
 use Rattle.group_commit.proofs.desk.Desk.needs_checkpoint.Goals as goal

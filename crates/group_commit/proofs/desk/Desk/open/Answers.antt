@@ -6,7 +6,7 @@ use Rattle.ring_records.specs.declared.refusal.Refusal.TheVariants.{OutOfMemory}
 use Rattle.ring_records.specs.Known.{after}
 use Rattle.ring_records.specs.Member.{member}
 use Rattle.node_core.specs.Core.{CoreView}
-use Rattle.gated_journal.specs.Reading.{reading_of_opening}
+use Rattle.gated_journal.specs.Opened.{reading_of_opening}
 use Rattle.group_commit.specs.Desk.{core_of, first_base}
 use Rattle.group_commit.specs.Kept.{AreAnswers, IsDesk, state_with}
 use Rattle.group_commit.specs.Opening.{opened_core, core_after, IsKnownLawful, IsUnlawful}

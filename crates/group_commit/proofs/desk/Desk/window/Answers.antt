@@ -1,7 +1,8 @@
 use Rattle.std.proofs.Common.{◌≡◌, ◌∙◌, List, subst}
 use Rattle.ring_records.specs.declared.input.Input.{Input}
 use Rattle.ring_records.specs.Release.{numbered, window}
-use Rattle.ring_records.specs.States.{IsLawfulState, durable_in}
+use Rattle.ring_records.specs.States.{durable_in}
+use Rattle.ring_records.specs.Lawful.{IsLawfulState}
 use Rattle.group_commit.specs.Desk.{DeskKept, seen}
 use Rattle.group_commit.specs.Past.{IsPast}
 use Rattle.group_commit.proofs.Inside.{member_in, state_in}

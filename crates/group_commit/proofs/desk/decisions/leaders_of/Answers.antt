@@ -2,7 +2,7 @@ use Rattle.std.proofs.Common.{◌++◌, ◌∙◌, [], take, sym, ap, arith}
 use Rattle.std.specs.List.{cons_option, filter_map}
 use Rattle.ring_records.specs.Notices.{decided_all}
 use Rattle.ring_records.proofs.Lists.{filter_map-push}
-use Rattle.ring_records.proofs.LookBack.{IsItem, take-item}
+use Rattle.ring_records.proofs.Iteration.{IsItem, take-item}
 use Rattle.group_commit.specs.Content.{led}
 use Rattle.group_commit.proofs.Leaders.{all-push}
 use Rattle.group_commit.proofs.desk.decisions.leaders_of.Goals as goal

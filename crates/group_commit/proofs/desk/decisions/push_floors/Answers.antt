@@ -1,7 +1,7 @@
 use Rattle.std.proofs.Common.{rules, ◌≤◌, ◌++◌, ◌∷◌, ◌∙◌, [], List, length, take, ap, sym, append-nil, append_assoc, take_all}
 use Rattle.ring_records.specs.declared.key.Key.{Key}
 use Rattle.ring_records.specs.declared.notice.Notice.{Notice}
-use Rattle.ring_records.proofs.LookBack.{IsItem, take-item}
+use Rattle.ring_records.proofs.Iteration.{IsItem, take-item}
 use Rattle.group_commit.specs.Content.{retired_all}
 use Rattle.group_commit.proofs.Leaders.{retired-push}
 use Rattle.group_commit.proofs.desk.decisions.push_floors.Goals as goal

@@ -4,7 +4,7 @@ use Rattle.std.proofs.lemmas.Option.{slice_get_read}
 use Rattle.ring_records.specs.declared.summary.Summary.{Summary}
 use Rattle.ring_records.specs.Known.{Objects, stepped, after}
 use Rattle.ring_records.specs.Lists.{EachAfter}
-use Rattle.ring_records.proofs.LookBack.{IsItem}
+use Rattle.ring_records.proofs.Iteration.{IsItem}
 use Rattle.node_core.specs.Brought.{brought}
 use Rattle.node_core.specs.Core.{CoreView, Refuses, taking}
 use Rattle.group_commit.specs.Opening.{core_after, IsKnownLawful}

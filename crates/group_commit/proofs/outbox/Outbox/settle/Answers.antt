@@ -2,7 +2,7 @@ use Rattle.std.proofs.Common.{rules, ◌≡◌, ◌∷◌, ◌∙◌, length, ta
 use Rattle.std.proofs.lemmas.List.{get_or_default}
 use Rattle.ring_records.specs.declared.input.Input.TheVariants.{Acked}
 use Rattle.ring_records.specs.Known.{after}
-use Rattle.ring_records.proofs.LookBack.{IsItem}
+use Rattle.ring_records.proofs.Iteration.{IsItem}
 use Rattle.node_core.specs.declared.effects.Effects.{Effects}
 use Rattle.group_commit.specs.Outbox.{Keeps}
 use Rattle.group_commit.proofs.Settling.{settles_none, settles_end, settles_next, keeps_next, first_of, brings_next, free_at, holds_landed}

@@ -1,6 +1,6 @@
 use Rattle.std.proofs.Common.{rules, ◌≡◌, ◌-◌, ◌≤◌, ◌∙◌, length, ap, take_all, arith}
 use Rattle.ring_records.specs.Release.{numbered}
-use Rattle.ring_records.proofs.LookBack.{IsItem}
+use Rattle.ring_records.proofs.Iteration.{IsItem}
 use Rattle.group_commit.proofs.Releases.{numbered-item}
 use Rattle.group_commit.proofs.released.Released.window.Goals as goal
 

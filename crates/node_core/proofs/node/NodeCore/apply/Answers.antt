@@ -51,16 +51,16 @@ pub returns-clause-brings : goal.returns-clause-brings
 returns-clause-brings c = c.in_ok-effects.ensures.brings ∙ ap (λ (v : CoreView). brought v.me v.known c.args.input) c.self.view_is
 
 pub returns-clause-carry : goal.returns-clause-carry
-returns-clause-carry c = λ h s.
-    ap (λ (e : Effects). e.carry) (c.in_ok-effects.ensures.brings ∙ ap (λ (v : CoreView). brought v.me v.known c.args.input) c.self.view_is) ∙ carries c.args.self.now h c.args.input s
+returns-clause-carry c = λ base h s.
+    ap (λ (e : Effects). e.carry) (c.in_ok-effects.ensures.brings ∙ ap (λ (v : CoreView). brought v.me v.known c.args.input) c.self.view_is) ∙ carries c.args.self.now.me c.args.self.now.known h c.args.input s.knows
 
 pub returns-clause-told : goal.returns-clause-told
-returns-clause-told c = λ h s.
-    ap (λ (e : Effects). e.notice) (c.in_ok-effects.ensures.brings ∙ ap (λ (v : CoreView). brought v.me v.known c.args.input) c.self.view_is) ∙ tells c.args.self.now h c.args.input s
+returns-clause-told c = λ base h s.
+    ap (λ (e : Effects). e.notice) (c.in_ok-effects.ensures.brings ∙ ap (λ (v : CoreView). brought v.me v.known c.args.input) c.self.view_is) ∙ tells c.args.self.now.me c.args.self.now.known h c.args.input s.knows
 
 pub returns-clause-stands : goal.returns-clause-stands
-returns-clause-stands c = λ h s.
-    goes_on c.args.self.now _ h c.args.input
+returns-clause-stands c = λ base h s.
+    goes_on c.args.self.now _ base h c.args.input
     (stepped_core c.args.self.now c.self.inside.core c.apply.new.self c.self.inside.capacity c.self.inside.room _ c.args.input c.self.view_is c.in_ok-effects.ensures.steps c.room_behind-room.ensures.value)
     (subst (λ (v : CoreView). v.known.credit ≤ v.known.sent) c.self.view_is c.self.invariant.within)
     (subst (λ (v : CoreView). v.known.stands ≡ stood_count v.known.keys) c.self.view_is c.self.invariant.stood) c.requires s

@@ -9,4 +9,4 @@ pub returns-clause-value : goal.returns-clause-value
 returns-clause-value c = subst (λ (v : CoreView). IsLatest (leads_in v.known c.args.group.now) c.latest.result) c.self.view_is c.latest.ensures
 
 pub returns-clause-known : goal.returns-clause-known
-returns-clause-known c = λ h s. leads_last c.args.self.now h c.args.group.now c.latest.result s (subst (λ (v : CoreView). IsLatest (leads_in v.known c.args.group.now) c.latest.result) c.self.view_is c.latest.ensures)
+returns-clause-known c = λ base h s. leads_last c.args.self.now.me c.args.self.now.known h c.args.group.now c.latest.result s.knows (subst (λ (v : CoreView). IsLatest (leads_in v.known c.args.group.now) c.latest.result) c.self.view_is c.latest.ensures)

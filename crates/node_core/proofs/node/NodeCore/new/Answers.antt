@@ -18,4 +18,5 @@ pub returns-clause-empty : goal.returns-clause-empty
 returns-clause-empty c = record {
   knows = ap (λ (v : FreeView). v.known) c.new.ensures ∙ sym (summary-none c.new.result.me);
   room = λ i. record { layout = newest; epoch = 1; taken = sym (used-each []) i; waits = false };
+  within = omega arith;
 }

@@ -3,7 +3,8 @@ use Rattle.disk_model.proofs.Moments.{started, weaken}
 use Rattle.ring_records.specs.Release.{packets, notices}
 use Rattle.ring_records.specs.States.{durable_in, flying_in}
 use Rattle.ring_records.proofs.Admission.{or_else-none}
-use Rattle.group_commit.specs.Desk.{DeskView, launch_objection}
+use Rattle.group_commit.specs.Desk.{DeskView}
+use Rattle.group_commit.specs.Launching.{launch_objection}
 use Rattle.node_store.proofs.Flight.{unbegun, no_fault, checkpoint_flies, summed}
 use Rattle.node_store.proofs.Standing.{left}
 use Rattle.node_store.proofs.node.Node.checkpoint.Goals as goal

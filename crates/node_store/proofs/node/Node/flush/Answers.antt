@@ -5,7 +5,8 @@ use Rattle.ring_records.specs.Release.{packets, notices}
 use Rattle.ring_records.specs.States.{durable_in, flying_in}
 use Rattle.ring_records.proofs.Admission.{or_else-none}
 use Rattle.gated_journal.specs.Areas.{AllReadAs}
-use Rattle.group_commit.specs.Desk.{DeskView, launch_objection, launched, launched_all, seen}
+use Rattle.group_commit.specs.Desk.{DeskView, launched, seen}
+use Rattle.group_commit.specs.Launching.{launch_objection, launched_all}
 use Rattle.group_commit.proofs.Seen.{launched_seen}
 use Rattle.node_store.specs.State.{durable_held}
 use Rattle.node_store.proofs.Flight.{summed}

@@ -2,7 +2,7 @@ use Rattle.std.proofs.Common.{◌≡◌, ◌-◌, ⊎_elim, inl, inr, ap, ◌∙
 use Rattle.disk_model.specs.Disk.{Disk}
 use Rattle.ring_records.specs.Member.{member}
 use Rattle.gated_journal.specs.Journal as journals
-use Rattle.gated_journal.specs.Reading.{reading_of_opening, used_in}
+use Rattle.gated_journal.specs.Opened.{reading_of_opening, used_in}
 use Rattle.gated_journal.specs.Unread.{IsFault}
 use Rattle.node_store.proofs.Recovered.{kept_by, short_only, not_opened, short_or_not, still_holds, same_image, holds_again, no_fault, capacity_again, made_again, named_again}
 use Rattle.node_store.proofs.Standing.{opens}

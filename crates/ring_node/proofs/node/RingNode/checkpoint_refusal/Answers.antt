@@ -1,8 +1,10 @@
 use Rattle.std.proofs.Common.{◌≡◌, IfSome, Option, ap, sym, subst, ◌∙◌}
 use Rattle.ring_records.specs.declared.refusal.Refusal.{Refusal}
 use Rattle.ring_records.specs.declared.refusal.Refusal.TheVariants.{OutOfMemory}
-use Rattle.ring_node.specs.Node.{NodeView, state_of, checkpoint_refusal}
-use Rattle.group_commit.specs.Desk.{DeskKept, checkpoint_objection, seen}
+use Rattle.ring_node.specs.Node.{NodeView, state_of}
+use Rattle.ring_node.specs.Refusals.{checkpoint_refusal}
+use Rattle.group_commit.specs.Desk.{DeskKept, seen}
+use Rattle.group_commit.specs.Launching.{checkpoint_objection}
 use Rattle.ring_node.proofs.Flights.{objection_is, no_memory}
 use Rattle.ring_node.proofs.node.RingNode.checkpoint_refusal.Goals as goal
 

@@ -1,5 +1,5 @@
 use Rattle.std.proofs.Common.{◌∙◌}
-use Rattle.ring_node.specs.Node.{checkpoint_refusal}
+use Rattle.ring_node.specs.Refusals.{checkpoint_refusal}
 use Rattle.ring_world.proofs.working.Working.checkpoint_refusal.Goals as goal
 
 pub returns-clause-value : goal.returns-clause-value

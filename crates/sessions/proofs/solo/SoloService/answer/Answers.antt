@@ -4,7 +4,7 @@ use Rattle.ring_records.specs.Answer.{Answered}
 use Rattle.ring_records.specs.States.{opened}
 use Rattle.group_commit.specs.Desk.{DeskKept, IsHere}
 use Rattle.group_commit.specs.Ticket.{TicketView, shown}
-use Rattle.node_store.specs.State.{settled_base}
+use Rattle.node_store.specs.Flying.{settled_base}
 use Rattle.sessions.proofs.Asked.{one_waits, no_ticket, still_here, none_of}
 use Rattle.sessions.proofs.solo.SoloService.answer.Goals as goal
 
