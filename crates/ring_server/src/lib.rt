@@ -4,6 +4,7 @@
 #![tactic(auto)]
 
 mod clerk;
+mod crew;
 mod door;
 mod enrolled;
 mod event;

@@ -1,5 +1,5 @@
 use Rattle.std.proofs.Common.{◌≡◌, ◌+◌, length}
-use Rattle.ring_server.proofs.node.start_doors.Given as goal
+use Rattle.ring_server.proofs.crew.start_doors.Given as goal
 
 -- a thread for each seat so far
 abbrev pub invariant-loop-seat : goal.invariant-loop-seat
