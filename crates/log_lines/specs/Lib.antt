@@ -1,3 +1,4 @@
 pub mod Forms
+pub mod Quotas
 pub mod Spells
 pub mod Streams

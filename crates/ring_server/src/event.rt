@@ -1,12 +1,13 @@
 //! What is told of a ring where all that happens is told.
+use log_lines::{MOST_LINES, Quota};
 use ring_records::{Decision, GroupName, NodeNo, Term};
 use std::alloc::{AllocError, Global};
 use std::collections::VecDeque;
 use std::io;
 use std::io::Write;
 
-/// How many are told in a second at most, and kept at most that are not told yet.
-const EVENTS: usize = 1_024;
+/// How many are kept at most that are not told yet.
+const KEPT: usize = MOST_LINES as usize;
 
 /// What has happened at a node.
 #[derive(Clone, Copy)]
@@ -56,23 +57,17 @@ impl Event {
 pub(crate) struct Events {
     is_asked: bool,
     kept: VecDeque<Event>,
-    // how many more are taken in this second
-    free: usize,
-    left_out: u64,
-    // how many were left out before this second, of which nothing is told yet
-    due: u64,
+    quota: Quota,
 }
 
 impl Events {
     /// Where nothing has happened. Refused for want of memory alone.
     pub(crate) fn new(alloc: Global, is_asked: bool) -> Result<Events, AllocError> {
-        let places = if is_asked { EVENTS } else { 0 };
+        let places = if is_asked { KEPT } else { 0 };
         Ok(Events {
             is_asked,
             kept: VecDeque::with_capacity(alloc, places)?,
-            free: places,
-            left_out: 0,
-            due: 0,
+            quota: Quota::new(),
         })
     }
 
@@ -81,19 +76,15 @@ impl Events {
         if !self.is_asked {
             return false;
         }
-        if self.free == 0 || self.kept.len() >= EVENTS || self.kept.push_back(event).is_err() {
-            self.left_out = self.left_out.saturating_add(1);
-            return false;
-        }
-        self.free = self.free.saturating_sub(1);
-        true
+        let has_place = self.quota.has_more() && self.kept.len() < KEPT;
+        let is_told = has_place && self.kept.push_back(event).is_ok();
+        self.quota.count(is_told);
+        is_told
     }
 
     /// A second begins, or nothing more happens: what was left out before is to be told.
     pub(crate) fn begin_second(&mut self) {
-        self.free = EVENTS;
-        self.due = self.due.saturating_add(self.left_out);
-        self.left_out = 0;
+        self.quota.begin_second();
     }
 
     /// The next that is to be told.
@@ -103,8 +94,6 @@ impl Events {
 
     /// How many were left out before this second, where some were and it was not told.
     pub(crate) fn left_out(&mut self) -> Option<u64> {
-        let count = self.due;
-        self.due = 0;
-        if count > 0 { Some(count) } else { None }
+        self.quota.left_out()
     }
 }
