@@ -180,7 +180,14 @@ fn check<R: Files<File = File>, O: Write>(
     out: &mut O,
 ) -> Result<u8, RunFault> {
     let target = target_of(settings, words);
-    Ok(check_ring(rt, alloc, settings.dir.as_str(), target, words.leaders, out)?)
+    Ok(check_ring(
+        rt,
+        alloc,
+        settings.dir.as_str(),
+        &target,
+        words.leaders,
+        out,
+    )?)
 }
 
 /// Makes the nodes that are not there, as a start does, and serves nothing. Where it is refused, what it made is gone.
@@ -193,7 +200,7 @@ fn make<R: Files<File = File> + Clock, E: Write>(
 ) -> Result<u8, RunFault> {
     let target = target_of(settings, &call.words);
     let mut log = Log::new(rt, err, call.log);
-    Ok(make_ring(rt, alloc, settings.dir.as_str(), target, VERSION, &mut log)?)
+    Ok(make_ring(rt, alloc, settings.dir.as_str(), &target, VERSION, &mut log)?)
 }
 
 /// Finds the nodes, has their ports, makes the nodes ready, and serves so many sessions at each, or without end. Where
@@ -222,7 +229,8 @@ where
 {
     let words = &call.words;
     // Its lock is held until the last node has ended.
-    let basis = Basis::open(rt, alloc, settings.dir.as_str(), target_of(settings, words))?;
+    let target = target_of(settings, words);
+    let basis = Basis::open(rt, alloc, settings.dir.as_str(), &target)?;
     let found = basis.find(rt, words.existing, &mut Log::new(rt, err, call.log))?;
     look_at_descriptors(settings.nodes, words.doors)?;
     let serving = Serving {
@@ -261,8 +269,8 @@ where
         + Files<File = File>
         + Net<Listener = TcpListener, Stream = TcpStream>,
     requires order { IsInOrder found_as found.items }
-    requires count { length found.items ≡ basis.now.target.nodes }
-    requires fits { Fits found_as basis.now.target.nodes found.items }
+    requires count { length found.items ≡ basis.now.target.now.nodes }
+    requires fits { Fits found_as basis.now.target.now.nodes found.items }
 {
     let ready = basis.make_ready(
         rt,

@@ -39,7 +39,7 @@ pub struct Target {
 /// before.
 #[derive(Drop)]
 pub struct Basis<'a> {
-    pub target: Target,
+    pub target: &'a Target,
     pub alloc: Global,
     folder: Folder<'a>,
     is_made: bool,
@@ -63,9 +63,9 @@ impl<'a> Basis<'a> {
         rt: &R,
         alloc: Global,
         dir: &'a str,
-        target: Target,
+        target: &'a Target,
     ) -> Result<Basis<'a>, RingFault>
-        ensures { IfOk result (λ basis. basis.target ≡ target) }
+        ensures { IfOk result (λ basis. basis.target.now ≡ target.now) }
     {
         let folder = of_folder(Folder::open(rt, dir))?;
         let folder = of_ring(rt, alloc, folder, target.ring)?;
@@ -83,9 +83,9 @@ impl<'a> Basis<'a> {
         rt: &R,
         alloc: Global,
         dir: &'a str,
-        target: Target,
+        target: &'a Target,
     ) -> Result<Basis<'a>, RingFault>
-        ensures { IfOk result (λ basis. basis.target ≡ target) }
+        ensures { IfOk result (λ basis. basis.target.now ≡ target.now) }
     {
         let folder = of_folder(Folder::look(rt, dir))?;
         let folder = of_ring(rt, alloc, folder, target.ring)?;
@@ -106,11 +106,11 @@ impl<'a> Basis<'a> {
         log: &mut Log<'_, C, E>,
     ) -> Result<Vec<Found<FileDevice>>, RingFault>
         ensures order { IfOk result (λ found. IsInOrder found_as found.items) }
-        ensures count { IfOk result (λ found. length found.items ≡ self.now.target.nodes) }
-        ensures fits { IfOk result (λ found. Fits found_as self.now.target.nodes found.items) }
+        ensures count { IfOk result (λ found. length found.items ≡ self.now.target.now.nodes) }
+        ensures fits { IfOk result (λ found. Fits found_as self.now.target.now.nodes found.items) }
     {
         let existing = self.is_made || existing;
-        let found = find_ring(rt, self.alloc, &self.folder, &self.target, existing)?;
+        let found = find_ring(rt, self.alloc, &self.folder, self.target, existing)?;
         tell_capacities(log, self.target.capacity, &found);
         look_at_files(&found)?;
         Ok(found)
@@ -128,12 +128,12 @@ impl<'a> Basis<'a> {
         log: &mut Log<'_, C, E>,
     ) -> Result<Vec<Ready<FileDevice>>, RingFault>
         requires order { IsInOrder found_as found.items }
-        requires count { length found.items ≡ self.now.target.nodes }
-        requires fits { Fits found_as self.now.target.nodes found.items }
+        requires count { length found.items ≡ self.now.target.now.nodes }
+        requires fits { Fits found_as self.now.target.now.nodes found.items }
         ensures ready { IfOk result (λ ring. AreReady found.items ring.items) }
         ensures order { IfOk result (λ ring. IsInOrder ready_as ring.items) }
-        ensures count { IfOk result (λ ring. length ring.items ≡ self.now.target.nodes) }
-        ensures fits { IfOk result (λ ring. Fits ready_as self.now.target.nodes ring.items) }
+        ensures count { IfOk result (λ ring. length ring.items ≡ self.now.target.now.nodes) }
+        ensures fits { IfOk result (λ ring. Fits ready_as self.now.target.now.nodes ring.items) }
     {
         tell_start(log, version, &found);
         let ready = open_ring(
@@ -187,12 +187,12 @@ pub fn check_ring<R: Files<File = File>, O: Write>(
     rt: &R,
     alloc: Global,
     dir: &str,
-    target: Target,
+    target: &Target,
     leaders: bool,
     out: &mut O,
 ) -> Result<u8, RingFault> {
     let basis = Basis::look(rt, alloc, dir, target)?;
-    let found = find_ring(rt, alloc, &basis.folder, &basis.target, basis.is_made)?;
+    let found = find_ring(rt, alloc, &basis.folder, target, true)?;
     tell_ring(alloc, &found, leaders, out)
 }
 
@@ -202,7 +202,7 @@ pub fn make_ring<R: Files<File = File>, C: Clock, E: Write>(
     rt: &R,
     alloc: Global,
     dir: &str,
-    target: Target,
+    target: &Target,
     version: &str,
     log: &mut Log<'_, C, E>,
 ) -> Result<u8, RingFault> {

@@ -51,7 +51,7 @@ fn made<R: Abort + AllocGlobal + Clock + Files<File = File>>(
         &fake,
         rt.alloc(),
         settings.dir.as_str(),
-        target,
+        &target,
         VERSION,
         &mut log,
     ) {
