@@ -12,7 +12,7 @@ use Rattle.ring_records.specs.declared.refusal.Refusal.TheVariants as refused
 use Rattle.ring_records.specs.declared.request.Request.{Request}
 use Rattle.ring_records.specs.States.{NodeState, durable_in}
 use Rattle.ring_records.specs.Lawful.{IsNodeState}
-use Rattle.ring_records.specs.Message.{is_outside}
+use Rattle.ring_records.specs.Outside.{is_outside}
 use Rattle.ring_records.proofs.Lists.{none≢some}
 use Rattle.group_commit.specs.Desk.{DeskView, DeskKept, IsSealed, IsSubmitted, objection}
 use Rattle.group_commit.specs.Ticket.{TicketView}

@@ -17,9 +17,8 @@ use Rattle.ring_records.proofs.States.{idle-none}
 use Rattle.gated_journal.specs.Batch.{Numbered, numbered_with}
 use Rattle.gated_journal.specs.declared.work.Work.{Work}
 use Rattle.group_commit.specs.Desk.{DeskKept, DeskView, IsFlying, known_all, landed, launched}
-use Rattle.group_commit.specs.Launching.{launch_objection, launched_all, needs_checkpoint}
+use Rattle.group_commit.specs.Launching.{launch_objection, launched_all, needs_checkpoint, is_checkpoint_next, launched_next, IsNoWork, IsUnlaunched, IsWorkOf}
 use Rattle.group_commit.specs.Next.{is_to_make_room}
-use Rattle.group_commit.specs.Launching.{is_checkpoint_next, launched_next, IsNoWork, IsUnlaunched, IsWorkOf}
 use Rattle.group_commit.proofs.Checkpoints.{idle_free}
 use Rattle.group_commit.proofs.Costs.{launched_counts}
 use Rattle.commit_hub.specs.Desks.{flies, flying_part, has_waiting, is_done, is_over, is_resting, launch_refusal}

@@ -14,9 +14,8 @@ use Rattle.ring_records.proofs.Lists.{none≢some}
 use Rattle.ring_records.proofs.States.{idle-none}
 use Rattle.gated_journal.specs.declared.work.Work.{Work}
 use Rattle.group_commit.specs.Desk.{DeskKept, landed, launched}
-use Rattle.group_commit.specs.Launching.{next_area, launch_objection, launched_all}
+use Rattle.group_commit.specs.Launching.{next_area, launch_objection, launched_all, is_checkpoint_next, launched_next, IsFitting, IsNoWork, IsWorkOf}
 use Rattle.group_commit.specs.Next.{IsNext}
-use Rattle.group_commit.specs.Launching.{is_checkpoint_next, launched_next, IsFitting, IsNoWork, IsWorkOf}
 use Rattle.group_commit.proofs.Checkpoints.{idle_free, none_pending}
 use Rattle.group_commit.proofs.KeptInputs.{after-inputs}
 use Rattle.group_commit.proofs.Costs.{base_stays, flown, launched_counts}

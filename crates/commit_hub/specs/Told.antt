@@ -11,9 +11,10 @@ use Rattle.ring_records.specs.declared.summary.Summary.{Summary}
 use Rattle.ring_records.specs.Admission.{newest, snapshot_len, used}
 use Rattle.ring_records.specs.History.{stands}
 use Rattle.ring_records.specs.Member.{Member}
-use Rattle.ring_records.specs.Message.{is_outside}
+use Rattle.ring_records.specs.Outside.{is_outside}
 use Rattle.ring_records.specs.Release.{packets, notices, window}
-use Rattle.ring_records.specs.States.{NodeState, launched_base, durable_in, shown_in}
+use Rattle.ring_records.specs.States.{NodeState, launched_base, durable_in}
+use Rattle.ring_records.specs.Serving.{shown_in}
 use Rattle.ring_records.specs.Lawful.{IsLawfulState}
 use Rattle.ring_records.specs.Summary.{floors_in, summary}
 use Rattle.group_commit.specs.declared.landed.Landed.{Landed}

@@ -23,7 +23,7 @@ use Rattle.ring_records.specs.declared.notice.Notice.{Notice}
 use Rattle.ring_records.specs.declared.notice.Notice.TheVariants.{Decided, Retired}
 use Rattle.ring_records.specs.Notices.{floor_in, leader_in, leads_in, top_term}
 use Rattle.ring_records.specs.KeyOrder.{key_cmp}
-use Rattle.ring_records.specs.Leader.{IsLatest}
+use Rattle.ring_records.specs.Latest.{IsLatest}
 use Rattle.ring_records.specs.Order.{is_key}
 use Rattle.ring_records.proofs.Compare.{get-key, get-put, lookup-key, insert-key, is_eq-key_cmp, keys_total, keys_exact}
 use Rattle.ring_records.proofs.KeyRange.{key_at, terms_in_order, within_group, same_group, term_at_most}

@@ -1,7 +1,7 @@
 // The leaders by key.
 ghost use Rattle.std.specs.Prelude.{◌≡◌, ◌<◌, ℕ, None, IsSome, MatchOption, OnOk, OnErr};
 ghost use Rattle.std.specs.FinMap as map;
-ghost use Rattle.ring_records.specs.Leader.{IsLatest};
+ghost use Rattle.ring_records.specs.Latest.{IsLatest};
 ghost use Rattle.decision_board.specs.Leaders.{leads, put, reaches, start_of, without};
 ghost use Rattle.decision_board.specs.Next.{IsFirstLed, IsNext};
 

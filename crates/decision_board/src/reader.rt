@@ -3,7 +3,7 @@ ghost use Rattle.std.specs.Prelude.{◌≡◌, ◌<◌, ◌≤◌, ◌⊎◌, �
 ghost use mathlib.Core.List.{IsPrefix};
 ghost use Rattle.left_right.specs.Sides.{view};
 ghost use Rattle.ring_records.specs.Notices.{floor_in, leader_in, leads_in, IsNotBelow};
-ghost use Rattle.ring_records.specs.Leader.{IsLatest};
+ghost use Rattle.ring_records.specs.Latest.{IsLatest};
 ghost use Rattle.ring_records.specs.declared.candidate.Candidate.{Candidate};
 ghost use Rattle.ring_records.specs.declared.refusal.Refusal.TheVariants.{NoPlace, Retired};
 ghost use Rattle.decision_board.specs.Next.{IsNext};

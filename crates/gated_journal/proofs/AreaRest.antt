@@ -11,9 +11,8 @@ use Rattle.ring_records.specs.Admission.{costs_of}
 use Rattle.ring_records.specs.Member.{Member}
 use Rattle.ring_records.proofs.Counts.{costs-joined}
 use Rattle.gated_journal.specs.Frames.{ReadsTo}
-use Rattle.gated_journal.specs.AreaWritten.{Appends}
+use Rattle.gated_journal.specs.AreaWritten.{Appends, ReadsAtOneOf, IsGate}
 use Rattle.gated_journal.specs.Areas.{ReadsAt, AllReadAs, ReadsAsOneOf}
-use Rattle.gated_journal.specs.AreaWritten.{ReadsAtOneOf, IsGate}
 use Rattle.gated_journal.specs.Place.{IsInUse, IsReadHere, Stands}
 use Rattle.gated_journal.specs.Reading.{Reading, with_more}
 use Rattle.gated_journal.specs.Opened.{count_in, used_in}

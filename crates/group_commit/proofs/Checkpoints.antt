@@ -6,7 +6,8 @@ use Rattle.std.proofs.lemmas.Bool.{and_parts, leb-false, leb-true, ltb-false, lt
 use Rattle.ring_records.specs.declared.refusal.Refusal.TheVariants.{Failed, Busy, Limit, Full, OutOfMemory}
 use Rattle.ring_records.specs.declared.refusal.Refusal.{Refusal}
 use Rattle.ring_records.specs.Lists.{or_else}
-use Rattle.ring_records.specs.Admission.{used, where_so, newest}
+use Rattle.ring_records.specs.Admission.{used, newest}
+use Rattle.ring_records.specs.Allowed.{where_so}
 use Rattle.ring_records.specs.Snapshot.{snapshot_len}
 use Rattle.ring_records.specs.States.{is_idle, launched_base}
 use Rattle.ring_records.specs.declared.base.Base.{Base}
@@ -14,9 +15,8 @@ use Rattle.ring_records.proofs.Admission.{or_else-none, where_so-none, or_else-f
 use Rattle.ring_records.proofs.States.{idle-base}
 use Rattle.ring_records.proofs.Lists.{none≢some}
 use Rattle.group_commit.specs.Desk.{DeskView, DeskKept, known_all, frees_room, is_due, epochs}
-use Rattle.group_commit.specs.Launching.{launch_objection, checkpoint_objection, needs_checkpoint, MayRenew}
+use Rattle.group_commit.specs.Launching.{launch_objection, checkpoint_objection, needs_checkpoint, MayRenew, is_checkpoint_next, IsUnlaunched}
 use Rattle.group_commit.specs.Next.{is_to_make_room}
-use Rattle.group_commit.specs.Launching.{is_checkpoint_next, IsUnlaunched}
 
 -- where nothing is against a launch, nothing flies
 pub idle_free : (d : DeskView) → launch_objection d ≡ None → is_idle d.state ≡ true

@@ -8,12 +8,11 @@ use Rattle.std.proofs.lemmas.Option.{same_Some}
 use Rattle.ring_records.specs.declared.base.Base.{Base}
 use Rattle.ring_records.specs.declared.input.Input.{Input}
 use Rattle.ring_records.specs.Admission.{newest, IsBaseOf}
-use Rattle.ring_records.specs.Lawful.{IsLawful}
+use Rattle.ring_records.specs.Lawful.{IsLawful, IsNodeState, IsLawfulState}
 use Rattle.ring_records.specs.Member.{Member}
 use Rattle.ring_records.specs.Snapshot.{snapshot_len}
 use Rattle.ring_records.specs.States as states
 use Rattle.ring_records.specs.States.{NodeState, is_idle, launched_base, durable_in, flown_in, flying_in}
-use Rattle.ring_records.specs.Lawful.{IsNodeState, IsLawfulState}
 use Rattle.ring_records.proofs.States.{base-first, idle-none, lawful-first, lawful-launched, lawful-launched_all, next-few}
 use Rattle.gated_journal.specs.Batch.{numbered, numbered_with}
 use Rattle.group_commit.specs.Desk.{DeskKept, DeskView, known_all, launched, seen}

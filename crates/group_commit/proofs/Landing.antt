@@ -11,14 +11,13 @@ use Rattle.ring_records.specs.declared.msg.Msg.{Msg}
 use Rattle.ring_records.specs.declared.packet.Packet.{Packet}
 use Rattle.ring_records.specs.declared.packet.Packet.TheVariants.{Credit}
 use Rattle.ring_records.specs.declared.summary.Summary.{Summary}
-use Rattle.ring_records.specs.Admission.{IsAllowed}
-use Rattle.ring_records.specs.Emission.{carry}
+use Rattle.ring_records.specs.Allowed.{IsAllowed}
+use Rattle.ring_records.specs.Release.{carry, carries, credit_where, credits, packets, notices}
 use Rattle.ring_records.specs.History.{taken}
 use Rattle.ring_records.specs.Known.{stepped, after}
 use Rattle.ring_records.specs.Decided.{told}
 use Rattle.ring_records.specs.Lists.{EachAfter}
 use Rattle.ring_records.specs.Member.{Member}
-use Rattle.ring_records.specs.Release.{carries, credit_where, credits, packets, notices}
 use Rattle.ring_records.specs.Summary.{summary}
 use Rattle.ring_records.proofs.Growth.{taken-append}
 use Rattle.node_core.specs.declared.effects.Effects.{Effects}

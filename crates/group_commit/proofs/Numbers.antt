@@ -11,7 +11,7 @@ use Rattle.std.specs.declared.cmp.Ordering.TheVariants.{Less, Equal, Greater}
 use Rattle.ring_records.specs.declared.refusal.Refusal.TheVariants.{Failed, BadNumber, Limit}
 use Rattle.ring_records.specs.declared.request.Request.{Request}
 use Rattle.ring_records.specs.Answer.{Answered}
-use Rattle.ring_records.specs.Message.{is_outside}
+use Rattle.ring_records.specs.Outside.{is_outside}
 use Rattle.ring_records.proofs.Lists.{none≢some}
 use Rattle.group_commit.specs.Desk.{DeskView, objection}
 use Rattle.group_commit.specs.Kept.{AreBelow}

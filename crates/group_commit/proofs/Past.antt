@@ -19,17 +19,22 @@ use Rattle.ring_records.specs.declared.request.Request.{Request}
 use Rattle.ring_records.specs.declared.request.Request.TheVariants as ask
 use Rattle.ring_records.specs.declared.room.Room.{Room}
 use Rattle.ring_records.specs.declared.summary.Summary.{Summary}
-use Rattle.ring_records.specs.Admission.{area_bytes, base_of, costs_of, is_retire, no_room, room_of, snapshot_len, used, shortage, objection, refusal, where_so, retired, IsAllowed, IsBaseOf, newest}
+use Rattle.ring_records.specs.Admission.{area_bytes, base_of, costs_of, is_retire, no_room, room_of, snapshot_len, used, shortage, refusal, IsBaseOf, newest}
+use Rattle.ring_records.specs.Allowed.{objection, where_so, retired, IsAllowed}
 use Rattle.ring_records.specs.Lawful.{HasRoom, Fits, IsAdmitted, IsLawful}
-use Rattle.ring_records.specs.Answer.{input_of, if_free, unless, gained, reply, answered}
-use Rattle.ring_records.specs.Emission.{sent, carry}
+use Rattle.ring_records.specs.Answer.{input_of, if_free, unless}
+use Rattle.ring_records.specs.Answering.{gained, reply, answered}
+use Rattle.ring_records.specs.Answer as by_rule
+use Rattle.ring_records.specs.Emission.{sent}
+use Rattle.ring_records.specs.Release.{carry}
 use Rattle.ring_records.specs.History.{floor, is_retired, credit}
 use Rattle.ring_records.specs.Known.{Objects, stepped, after}
 use Rattle.ring_records.specs.Leader.{first_leader, leader}
 use Rattle.ring_records.specs.Decided.{told}
 use Rattle.ring_records.specs.Lists.{or_else, found_after, EachAfter}
 use Rattle.ring_records.specs.Member.{Member}
-use Rattle.ring_records.specs.States.{NodeState, launched_base, durable_in, flying_in, answered_by, gained_by}
+use Rattle.ring_records.specs.States.{NodeState, launched_base, durable_in, flying_in}
+use Rattle.ring_records.specs.Serving.{answered_by, gained_by}
 use Rattle.ring_records.specs.Summary.{summary}
 use Rattle.ring_records.proofs.Admission.{objection-allowed}
 use Rattle.ring_records.proofs.Growth.{EachAfter-take}
@@ -59,7 +64,7 @@ unfolding shortage
 room_asked me capacity base h x within = sym (ap (λ b. cond b (no_room capacity (room_of base h) x (snapshot_len newest (summary me (h ++ x ∷ [])))) None) (le-leb base.inputs (length h) within))
 
 pub refused-is : (core : CoreView) (base : Base) (h : List Input) (x : Input) (o : Option Refusal) → IsOf core base h → Refuses core x o → o ≡ refusal core.me core.size core.capacity base h x
-unfolding refusal
+unfolding by_rule.refusal
 refused-is core base h x o of (first, objects, e) =
     let same = objects-known core.me core.size h x first (subst (λ (k : Summary). Objects core.size k x first) of.knows objects) in
     e ∙ (go first same ∙ ap (λ p. or_else p (shortage core.me core.capacity base h x)) same)
@@ -99,7 +104,7 @@ led_err me h key why e = go (is_retired h key) refl e
 -- the reply, and what the history gains
 pub answers : (core : CoreView) (base : Base) (h : List Input) (q : Request) (given : Reply) (more : Option Input) → IsOf core base h → Replies core q given more
     → (given ≡ reply core.me core.size core.capacity base h q) × (cons_option more [] ≡ gained core.me core.size core.capacity base h q)
-unfolding reply gained input_of
+unfolding by_rule.reply by_rule.gained input_of
 answers core base h (ask.Stand key bid) given more of (o, refuses, says, gains) =
     let same = refused-is core base h (Stand key bid) o of refuses in
     (says ∙ ap (λ p. unless p say.Stood) same, gains ∙ ap (λ p. if_free p (Stand key bid)) same)

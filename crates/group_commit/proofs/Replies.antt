@@ -8,11 +8,12 @@ use Rattle.ring_records.specs.declared.input.Input.{Input}
 use Rattle.ring_records.specs.declared.request.Request.{Request}
 use Rattle.ring_records.specs.declared.summary.Summary.{Summary}
 use Rattle.ring_records.specs.Admission.{IsBaseOf}
-use Rattle.ring_records.specs.Lawful.{IsLawful}
-use Rattle.ring_records.specs.Answer.{Answer, Answered, Answers, answer, gained}
+use Rattle.ring_records.specs.Lawful.{IsLawful, IsLawfulState}
+use Rattle.ring_records.specs.Answer.{Answer, Answered}
+use Rattle.ring_records.specs.Answering.{Answers, answer, gained}
 use Rattle.ring_records.specs.Member.{Member}
-use Rattle.ring_records.specs.States.{NodeState, launched_base, durable_in, answered_by, gained_by}
-use Rattle.ring_records.specs.Lawful.{IsLawfulState}
+use Rattle.ring_records.specs.States.{NodeState, launched_base, durable_in}
+use Rattle.ring_records.specs.Serving.{answered_by, gained_by}
 use Rattle.ring_records.proofs.Lists.{none≢some}
 use Rattle.history_laws.proofs.Beginnings.{longer, longer_at, shorter, shorter_at}
 use Rattle.group_commit.specs.Desk.{IsAnswer}

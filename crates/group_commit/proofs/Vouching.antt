@@ -13,8 +13,11 @@ use Rattle.ring_records.specs.declared.reply.Reply.TheVariants as say
 use Rattle.ring_records.specs.declared.request.Request.{Request}
 use Rattle.ring_records.specs.declared.request.Request.TheVariants as ask
 use Rattle.ring_records.specs.declared.summary.Summary.{Summary}
-use Rattle.ring_records.specs.Admission.{cost, fresh, lacks, objection, refusal, used}
-use Rattle.ring_records.specs.Answer.{Answer, Answered, input_of, if_free, unless, gained, reply, answer}
+use Rattle.ring_records.specs.Admission.{cost, fresh, lacks, refusal, used}
+use Rattle.ring_records.specs.Allowed.{objection}
+use Rattle.ring_records.specs.Answer.{Answer, Answered, input_of, if_free, unless}
+use Rattle.ring_records.specs.Answering.{gained, reply, answer}
+use Rattle.ring_records.specs.Answer as by_rule
 use Rattle.ring_records.specs.Known.{Objects, known_of, leader_of, leads_in}
 use Rattle.ring_records.specs.Leader.{leader, latest}
 use Rattle.ring_records.specs.Lists.{or_else}
@@ -44,7 +47,7 @@ lacking h x =
     lt-ltb 0 (used fresh h + cost x) (omega (arith, some))
 
 refusal-full : (me n : ℕ) (h : List Input) (x : Input) → refusal me n 0 fresh h x ≡ or_else (objection me n h x) (Some Full)
-unfolding refusal
+unfolding by_rule.refusal
 refusal-full me n h x = ap (or_else (objection me n h x)) (shortage-full me 0 fresh h x refl (omega arith) (lacking h x))
 
 refused-or : (o : Option Refusal) (good : Reply) → refused_or_full o ≡ unless (or_else o (Some Full)) good
@@ -65,7 +68,7 @@ weighed me n s h x good given o knows objects says =
 -- what such a node replies to a request, which it never accepts
 replies-full : (core : FreeView) (h : List Input) (q : Request) (given : Reply) → core.known ≡ summary core.me h → RepliesFull core q given
     → (given ≡ reply core.me core.size 0 fresh h q) × (gained core.me core.size 0 fresh h q ≡ [])
-unfolding reply gained input_of
+unfolding by_rule.reply by_rule.gained input_of
 replies-full core h (ask.Stand key bid) given knows (o, objects, says) = weighed core.me core.size core.known h (Stand key bid) say.Stood given o knows objects says
 replies-full core h (ask.Take msg_no msg) given knows (o, objects, says) = weighed core.me core.size core.known h (Take msg_no msg) say.Taken given o knows objects says
 replies-full core h (ask.Acked upto) given knows (o, objects, says) = weighed core.me core.size core.known h (Acked upto) say.Acked given o knows objects says
@@ -92,7 +95,7 @@ says : (given : Reply) (x y : Input) → ◌≡◌ {A = Option Input} (Some y) (
 says given x y asked accepts = accepts ∙ ap acceptance (sym (same_Some y x asked))
 
 pub no_acceptance : (me n : ℕ) (h : List Input) (q : Request) (a : Answer) (x : Input) → Accepts q a.reply x → a ≡ answer me n 0 fresh h q → ⊥
-unfolding reply input_of acceptance
+unfolding by_rule.reply input_of acceptance
 no_acceptance me n h (ask.Stand key bid) a x accepts e =
     refused-none (objection me n h (Stand key bid)) say.Stood (λ why s. cc) (ap (λ p. unless p say.Stood) (sym (refusal-full me n h (Stand key bid))) ∙ (sym (ap (λ (b : Answer). b.reply) e) ∙ says a.reply x (Stand key bid) accepts.asked accepts.says))
 no_acceptance me n h (ask.Take msg_no msg) a x accepts e =

@@ -12,12 +12,15 @@ use Rattle.ring_records.specs.declared.summary.Summary.{Summary}
 use Rattle.ring_records.specs.Admission.{base_of, newest, used, IsBaseOf}
 use Rattle.ring_records.specs.Lawful.{IsLawful}
 pub use Rattle.ring_records.specs.Admission.{epochs}
-use Rattle.ring_records.specs.Answer.{Answered, Answers}
+use Rattle.ring_records.specs.Answer.{Answered}
+use Rattle.ring_records.specs.Answering.{Answers}
 use Rattle.ring_records.specs.Known.{after}
 use Rattle.ring_records.specs.Member.{Member}
 use Rattle.ring_records.specs.States as states
-use Rattle.ring_records.specs.States.{NodeState, launched_base, opened, flying_in, answered_by, gained_by}
-use Rattle.ring_records.specs.Message.{is_outside}
+use Rattle.ring_records.specs.Serving as serving
+use Rattle.ring_records.specs.States.{NodeState, launched_base, opened, flying_in}
+use Rattle.ring_records.specs.Serving.{answered_by, gained_by}
+use Rattle.ring_records.specs.Outside.{is_outside}
 use Rattle.ring_records.specs.Snapshot.{snapshot_len}
 use Rattle.gated_journal.specs.Reading.{Reading}
 use Rattle.gated_journal.specs.Batch.{Numbered}
@@ -93,7 +96,7 @@ pub record IsHere (desk : DeskView) (ticket : TicketView) (kept : Answered) : Ty
 -- it gave a ticket for the request
 abbrev pub submitted : Request → DeskView → DeskView
 submitted q desk = record desk {
-  state = states.asked desk.member desk.state q;
+  state = serving.asked desk.member desk.state q;
   tickets = desk.tickets ++ (desk.issued, answered desk q) ∷ [];
   issued = desk.issued + 1;
 }

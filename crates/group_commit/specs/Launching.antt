@@ -3,8 +3,8 @@ use Rattle.std.specs.Prelude.{◌<◌, ◌≤◌, ◌+◌, Bool, if◌then◌els
 use Rattle.ring_records.specs.declared.base.Base.{Base}
 use Rattle.ring_records.specs.declared.refusal.Refusal.{Refusal}
 use Rattle.ring_records.specs.declared.refusal.Refusal.TheVariants as refused
-use Rattle.ring_records.specs.Admission.{newest, where_so}
-use Rattle.ring_records.specs.Admission.{epochs}
+use Rattle.ring_records.specs.Admission.{newest, epochs}
+use Rattle.ring_records.specs.Allowed.{where_so}
 use Rattle.ring_records.specs.Lists.{or_else}
 use Rattle.ring_records.specs.States.{is_idle, launched_base, flying_in}
 use Rattle.ring_records.specs.Snapshot.{snapshot_len}

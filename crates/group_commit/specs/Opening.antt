@@ -7,7 +7,8 @@ use Rattle.ring_records.specs.declared.refusal.Refusal.{Refusal}
 use Rattle.ring_records.specs.declared.refusal.Refusal.TheVariants as refused
 use Rattle.ring_records.specs.declared.room.Room.{Room}
 use Rattle.ring_records.specs.declared.summary.Summary.{Summary}
-use Rattle.ring_records.specs.Admission.{costs_of, is_retire, newest, room_of, IsAllowed}
+use Rattle.ring_records.specs.Admission.{costs_of, is_retire, newest, room_of}
+use Rattle.ring_records.specs.Allowed.{IsAllowed}
 use Rattle.ring_records.specs.Known.{after}
 use Rattle.ring_records.specs.Lists.{EachAfter}
 use Rattle.ring_records.specs.Member.{Member}

@@ -11,7 +11,7 @@ use Rattle.ring_records.specs.declared.request.Request.{Request}
 use Rattle.ring_records.specs.declared.request.Request.TheVariants as ask
 use Rattle.ring_records.specs.Answer.{if_free, unless}
 use Rattle.ring_records.specs.Known.{leads_in}
-use Rattle.ring_records.specs.Leader.{IsLatest}
+use Rattle.ring_records.specs.Latest.{IsLatest}
 use Rattle.node_core.specs.Brought.{who_by}
 use Rattle.node_core.specs.Core.{CoreView, Refuses}
 

@@ -5,12 +5,11 @@ use Rattle.ring_records.specs.declared.base.Base.{Base}
 use Rattle.ring_records.specs.declared.input.Input.{Input}
 use Rattle.ring_records.specs.declared.summary.Summary.{Summary}
 use Rattle.ring_records.specs.Admission.{area_bytes, room_of, snapshot_len, newest}
-use Rattle.ring_records.specs.Lawful.{HasRoom}
+use Rattle.ring_records.specs.Lawful.{HasRoom, IsNodeState}
 use Rattle.ring_records.specs.Known.{Objects, after}
 use Rattle.ring_records.specs.Lists.{EachAfter}
 use Rattle.ring_records.specs.Member.{Member}
 use Rattle.ring_records.specs.States.{NodeState, launched_base, durable_in, flown_in}
-use Rattle.ring_records.specs.Lawful.{IsNodeState}
 use Rattle.node_core.specs.Core.{CoreView}
 use Rattle.group_commit.specs.Desk.{epochs}
 use Rattle.group_commit.specs.Opening.{waits_for_area}

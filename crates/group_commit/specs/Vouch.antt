@@ -10,9 +10,10 @@ use Rattle.ring_records.specs.declared.reply.Reply.TheVariants as say
 use Rattle.ring_records.specs.declared.request.Request.{Request}
 use Rattle.ring_records.specs.declared.request.Request.TheVariants as ask
 use Rattle.ring_records.specs.Admission.{fresh}
-use Rattle.ring_records.specs.Answer.{Answer, Answered, input_of, answer}
+use Rattle.ring_records.specs.Answer.{Answer, Answered, input_of}
+use Rattle.ring_records.specs.Answering.{answer}
 use Rattle.ring_records.specs.Known.{Objects, leads_in}
-use Rattle.ring_records.specs.Leader.{IsLatest}
+use Rattle.ring_records.specs.Latest.{IsLatest}
 use Rattle.ring_records.specs.Member.{Member}
 use Rattle.node_core.specs.Brought.{who_by}
 use Rattle.node_core.specs.Core.{FreeView}

@@ -2,13 +2,12 @@
 ghost use Rattle.std.specs.Prelude.{◌≡◌, ◌+◌, ◌++◌, ◌≤◌, ◌⊎◌, ◌||◌, List, [], not, true, Some, None, length, drop, MatchOption, IfOk, IfErr, OnOk, OnErr};
 ghost use Rattle.std.specs.List.{cons_option};
 ghost use Rattle.ring_records.specs.declared.input.Input.{Input};
-ghost use Rattle.ring_records.specs.Lawful.{IsLawful};
+ghost use Rattle.ring_records.specs.Lawful.{IsLawful, IsNodeState, IsLawfulState};
 ghost use Rattle.ring_records.specs.Answer.{Answered};
 ghost use Rattle.ring_records.specs.Member.{member};
 ghost use Rattle.ring_records.specs.Release.{window};
 ghost use Rattle.ring_records.specs.Snapshot.{IsSound};
 ghost use Rattle.ring_records.specs.States.{launched_base, durable_in};
-ghost use Rattle.ring_records.specs.Lawful.{IsNodeState, IsLawfulState};
 
 use crate::desk::parts::{accept, replay};
 use crate::inputs::Inputs;

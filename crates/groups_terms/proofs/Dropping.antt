@@ -22,7 +22,8 @@ use Rattle.ring_records.specs.declared.key.Key.{Key}
 use Rattle.ring_records.specs.declared.key_state.KeyState.{KeyState}
 use Rattle.ring_records.specs.KeyOrder.{key_cmp}
 use Rattle.ring_records.specs.Known.{drops}
-use Rattle.ring_records.specs.Leader.{IsLatest, term_of}
+use Rattle.ring_records.specs.Leader.{term_of}
+use Rattle.ring_records.specs.Latest.{IsLatest}
 use Rattle.ring_records.specs.Order.{is_key}
 use Rattle.ring_records.specs.Snapshot.{has_stood}
 use Rattle.ring_records.proofs.Compare.{get-put, is_eq-key_cmp, keys_total, keys_exact}

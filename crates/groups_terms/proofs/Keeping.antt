@@ -9,7 +9,8 @@ use Rattle.std.specs.Ordering.{is_eq}
 use Rattle.std.specs.Cmp.{eq_by_cmp_equiv}
 use Rattle.std.proofs.lemmas.List.{length-map}
 use Rattle.ring_records.specs.declared.key.Key.{Key}
-use Rattle.ring_records.specs.Floors.{by_group, under_group, floored, as_key}
+use Rattle.ring_records.specs.Floors.{as_key}
+use Rattle.ring_records.specs.FloorLists.{by_group, under_group, floored}
 use Rattle.ring_records.specs.KeyOrder.{group_cmp}
 use Rattle.ring_records.proofs.FloorsInOrder.{groups_total, groups_exact, keys-floored, len-floors}
 

@@ -10,7 +10,7 @@ use Rattle.ring_records.specs.KeyOrder.{key_cmp, group_cmp}
 use Rattle.ring_records.specs.Coded.{coded_key, coded_group}
 use Rattle.ring_records.specs.KeyStates.{keyed}
 use Rattle.ring_records.specs.Known.{passed, shown}
-use Rattle.ring_records.specs.Leader.{IsLatest}
+use Rattle.ring_records.specs.Latest.{IsLatest}
 use Rattle.ring_records.specs.Lists.{or_else}
 use Rattle.ring_records.specs.Message.{key_of}
 use Rattle.cr_automaton.specs.declared.ballot.Ballot.{Ballot}

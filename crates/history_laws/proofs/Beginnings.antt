@@ -4,7 +4,8 @@ use Rattle.std.proofs.lemmas.List.{length-append, length-take, take-append-le, t
 use Rattle.ring_records.specs.declared.base.Base.{Base}
 use Rattle.ring_records.specs.declared.input.Input.{Input}
 use Rattle.ring_records.specs.declared.request.Request.{Request}
-use Rattle.ring_records.specs.Answer.{Answer, Answers, answer, gained}
+use Rattle.ring_records.specs.Answer.{Answer}
+use Rattle.ring_records.specs.Answering.{Answers, answer, gained}
 
 module _ (me n capacity : ℕ) (base : Base) (h : List Input) (q : Request) (a : Answer) (s : Answers me n capacity base h q a) where
   counts : a.number ≡ length (take s.before h ++ gained me n capacity base (take s.before h) q)

@@ -22,7 +22,7 @@ use Rattle.ring_records.specs.Leader.{first_leader}
 use Rattle.ring_records.specs.Message.{candidate_of}
 use Rattle.ring_records.specs.Order.{is_less}
 use Rattle.ring_records.specs.Place.{before}
-use Rattle.ring_records.specs.Admission.{IsInTurn, IsAllowed}
+use Rattle.ring_records.specs.Allowed.{IsInTurn, IsAllowed}
 use Rattle.ring_records.specs.Lists.{EachAfter}
 use Rattle.ring_records.proofs.Growth.{first_leader-kept}
 use Rattle.ring_records.proofs.History.{leader-shown, taken-push}

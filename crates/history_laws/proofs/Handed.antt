@@ -13,8 +13,10 @@ use Rattle.ring_records.specs.declared.msg.Msg.{Msg}
 use Rattle.ring_records.specs.declared.refusal.Refusal.{Refusal}
 use Rattle.ring_records.specs.declared.reply.Reply.TheVariants as say
 use Rattle.ring_records.specs.declared.request.Request.TheVariants as ask
-use Rattle.ring_records.specs.Admission.{IsAllowed, retired}
-use Rattle.ring_records.specs.Answer.{Answer, Answers, unless, reply}
+use Rattle.ring_records.specs.Allowed.{IsAllowed, retired}
+use Rattle.ring_records.specs.Answer.{Answer, unless}
+use Rattle.ring_records.specs.Answering.{Answers, reply}
+use Rattle.ring_records.specs.Answer as by_rule
 use Rattle.ring_records.specs.Emission.{sent}
 use Rattle.ring_records.specs.History.{message_of, taken}
 use Rattle.ring_records.specs.Leader.{leader}
@@ -69,7 +71,7 @@ shown_in n history i begun rest key c low high front leads = record { node = i; 
 
 pub replied_in : (n capacity : ℕ) (history : ℕ → List Input) (i : ℕ) (base : Base) (begun rest : List Input) (key : Key) (c : Candidate) (a : Answer)
     → 1 ≤ i → i ≤ n → begun ++ rest ≡ history i → Answers i n capacity base begun (ask.Who key) a → a.reply ≡ say.Leader (Some c) → IsLeaderIn n history key c
-unfolding reply
+unfolding by_rule.reply
 replied_in n capacity history i base begun rest key c a low high front answers says =
     let upto = take answers.before begun in
     shown_in n history i upto (drop answers.before begun ++ rest) key c low high

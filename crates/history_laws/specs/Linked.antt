@@ -8,7 +8,7 @@ use Rattle.ring_records.specs.declared.input.Input.TheVariants.{Take}
 use Rattle.ring_records.specs.declared.key.Key.{Key}
 use Rattle.ring_records.specs.declared.msg.Msg.{Msg}
 use Rattle.ring_records.specs.declared.packet.Packet.TheVariants.{Carry}
-use Rattle.ring_records.specs.Admission.{IsAllowed}
+use Rattle.ring_records.specs.Allowed.{IsAllowed}
 use Rattle.ring_records.specs.Answer.{PacketRests}
 use Rattle.ring_records.specs.Emission.{sent}
 use Rattle.ring_records.specs.History.{taken}

@@ -18,11 +18,15 @@ use Rattle.ring_records.specs.declared.packet.Packet.TheVariants.{Carry}
 use Rattle.ring_records.specs.declared.refusal.Refusal.{Refusal}
 use Rattle.ring_records.specs.declared.refusal.Refusal.TheVariants as refused
 use Rattle.ring_records.specs.declared.summary.Summary.{Summary}
-use Rattle.ring_records.specs.Admission.{base_of, costs_of, is_retire, no_room, room_of, shortage, snapshot_len, used, objection, refusal, IsAllowed, newest}
-use Rattle.ring_records.specs.Emission.{is_below, passed_on, emit, sent, carry}
+use Rattle.ring_records.specs.Admission.{base_of, costs_of, is_retire, no_room, room_of, shortage, snapshot_len, used, refusal, newest}
+use Rattle.ring_records.specs.Allowed.{objection, IsAllowed}
+use Rattle.ring_records.specs.Answer as by_rule
+use Rattle.ring_records.specs.Emission.{is_below, passed_on, emit, sent}
+use Rattle.ring_records.specs.Release.{carry}
 use Rattle.ring_records.specs.History.{floor_for, is_retired, first_stand, stood}
 use Rattle.ring_records.specs.Known.{Objects, sends, stepped, known_of, leader_of, leads_in}
-use Rattle.ring_records.specs.Leader.{IsLatest, is_bid, makes_leader, first_leader, leader, latest}
+use Rattle.ring_records.specs.Leader.{is_bid, makes_leader, first_leader, leader, latest}
+use Rattle.ring_records.specs.Latest.{IsLatest}
 use Rattle.ring_records.specs.Decided.{newly, decided, told}
 use Rattle.ring_records.specs.Lists.{or_else}
 use Rattle.ring_records.specs.Message.{key_of}
@@ -58,7 +62,7 @@ room_asked me capacity base h x within = sym (ap (λ b. cond b (no_room capacity
 
 pub refused-is : (core : CoreView) (base : Base) (h : List Input) (x : Input) (o : Option Refusal) → core.known.credit ≤ core.known.sent → core.known.stands ≡ stood_count core.known.keys
     → CoreStandsFor core base h → Refuses core x o → o ≡ refusal core.me core.size core.capacity base h x
-unfolding refusal
+unfolding by_rule.refusal
 refused-is core base h x o within counted s (first, objects, e) =
     let same = objects-known core.me core.size h x first (subst (λ (k : Summary). Objects core.size k x first) s.knows objects) in
     e ∙ (go first same ∙ ap (λ p. or_else p (shortage core.me core.capacity base h x)) same)

@@ -13,7 +13,8 @@ use Rattle.ring_records.specs.declared.limits.TheConstants.{STANDS}
 use Rattle.ring_records.specs.declared.msg.Msg.{Msg}
 use Rattle.ring_records.specs.declared.summary.Summary.{Summary}
 use Rattle.ring_records.specs.declared.refusal.Refusal.TheVariants as refused
-use Rattle.ring_records.specs.Admission.{state_len, msg_len, floor_len, snapshot_len, where_so, already, stale, newest}
+use Rattle.ring_records.specs.Admission.{state_len, msg_len, floor_len, snapshot_len, newest}
+use Rattle.ring_records.specs.Allowed.{where_so, already, stale}
 use Rattle.ring_records.specs.Lists.{or_else}
 use Rattle.ring_records.specs.Floors.{floor_keys, is_below_floor}
 use Rattle.ring_records.specs.Known.{drops, passed, heard, retired_in, stood_of, leader_of, sends, stepped, known_of, Objects}

@@ -12,9 +12,10 @@ use Rattle.ring_records.specs.declared.msg.Msg.{Msg}
 use Rattle.ring_records.specs.declared.refusal.Refusal.{Refusal}
 use Rattle.ring_records.specs.declared.refusal.Refusal.TheVariants as refused
 use Rattle.ring_records.specs.declared.summary.Summary.{Summary}
-use Rattle.ring_records.specs.Admission.{where_so, already, stale}
+use Rattle.ring_records.specs.Allowed.{where_so, already, stale}
 use Rattle.ring_records.specs.Known.{Objects, leads_in, retired_in}
-use Rattle.ring_records.specs.Leader.{IsLatest, term_of}
+use Rattle.ring_records.specs.Leader.{term_of}
+use Rattle.ring_records.specs.Latest.{IsLatest}
 use Rattle.ring_records.specs.Lists.{or_else}
 use Rattle.ring_records.proofs.Admission.{or_else-none, where_so-none}
 use Rattle.ring_records.proofs.Latest.{latest_same, one_latest}

@@ -12,7 +12,8 @@ use Rattle.ring_records.specs.declared.key.Key.{Key}
 use Rattle.ring_records.specs.declared.key_state.KeyState.{KeyState}
 use Rattle.ring_records.specs.declared.msg.Msg.{Msg}
 use Rattle.ring_records.specs.declared.summary.Summary.{Summary}
-use Rattle.ring_records.specs.Admission.{is_retire, IsInTurn, IsAllowed}
+use Rattle.ring_records.specs.Admission.{is_retire}
+use Rattle.ring_records.specs.Allowed.{IsInTurn, IsAllowed}
 use Rattle.ring_records.specs.Emission.{emit, sent}
 use Rattle.ring_records.specs.History.{floor, is_retired, bid_for, first_stand, stood, is_live_stand, stands, message_of, taken, upto_of, credit}
 use Rattle.ring_records.specs.KeyOrder.{key_cmp}

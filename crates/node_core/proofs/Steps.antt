@@ -14,8 +14,7 @@ use Rattle.ring_records.proofs.Sound.{sound-stepped}
 use Rattle.ring_records.specs.Floors.{is_below_floor}
 use Rattle.ring_records.specs.KeyOrder.{key_cmp}
 use Rattle.ring_records.specs.KeyStates.{keyed}
-use Rattle.ring_records.specs.Known.{Objects, drops, known_of, passed, shown, stood_of, leader_of, sends, stepped}
-use Rattle.ring_records.specs.Known.{heard as known_heard}
+use Rattle.ring_records.specs.Known.{Objects, drops, known_of, passed, shown, stood_of, leader_of, sends, stepped, heard as known_heard}
 use Rattle.ring_records.specs.Lists.{or_else}
 use Rattle.ring_records.specs.Message.{key_of}
 use Rattle.ring_records.specs.Snapshot.{has_stood}

@@ -12,7 +12,8 @@ use Rattle.ring_records.specs.declared.summary.Summary.{Summary}
 use Rattle.ring_records.specs.Admission.{snapshot_len, newest}
 use Rattle.ring_records.specs.Floors.{is_below_floor}
 use Rattle.ring_records.specs.KeyOrder.{key_cmp}
-use Rattle.ring_records.specs.Leader.{IsLatest, term_of}
+use Rattle.ring_records.specs.Leader.{term_of}
+use Rattle.ring_records.specs.Latest.{IsLatest}
 use Rattle.ring_records.specs.Message.{key_of}
 use Rattle.ring_records.specs.Snapshot.{IsSound, has_stood}
 use Rattle.cr_automaton.specs.declared.ballot.Ballot.{Ballot}

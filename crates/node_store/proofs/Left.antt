@@ -5,13 +5,13 @@ use Rattle.std.proofs.lemmas.List.{take-append-drop, take-take, drop-drop, lengt
 use Rattle.ring_records.specs.declared.base.Base.{Base}
 use Rattle.ring_records.specs.declared.input.Input.{Input}
 use Rattle.ring_records.specs.declared.refusal.Refusal.{Refusal}
-use Rattle.ring_records.specs.Admission.{area_bytes, IsBaseOf, IsAllowed}
-use Rattle.ring_records.specs.Lawful.{IsAdmitted, IsLawful}
+use Rattle.ring_records.specs.Admission.{area_bytes, IsBaseOf}
+use Rattle.ring_records.specs.Allowed.{IsAllowed}
+use Rattle.ring_records.specs.Lawful.{IsAdmitted, IsLawful, IsNodeState, IsLawfulState}
 use Rattle.ring_records.specs.Known.{after}
 use Rattle.ring_records.specs.Lists.{EachAfter}
 use Rattle.ring_records.specs.Member.{Member}
 use Rattle.ring_records.specs.States.{NodeState, launched_base, durable_in, flown_in, opened, left_by}
-use Rattle.ring_records.specs.Lawful.{IsNodeState, IsLawfulState}
 use Rattle.ring_records.specs.Summary.{summary}
 use Rattle.ring_records.proofs.Growth.{EachAfter-take}
 use Rattle.ring_records.proofs.States.{lawful-left, next-few}

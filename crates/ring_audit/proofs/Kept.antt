@@ -7,7 +7,7 @@ use Rattle.ring_records.specs.declared.summary.Summary.{Summary}
 use Rattle.ring_records.specs.Known.{Objects}
 use Rattle.ring_records.specs.Summary.{summary}
 use Rattle.ring_records.proofs.Known.{sends-known, objects-known, objects-of}
-use Rattle.ring_records.specs.Lists.{EachAfter}
+use Rattle.ring_records.specs.Lists.{EachAfter, found_after}
 use Rattle.node_core.specs.Brought.{brought}
 use Rattle.node_core.proofs.Histories.{brought-carry}
 use Rattle.std.proofs.lemmas.Option.{none-some}
@@ -16,9 +16,9 @@ use Rattle.ring_records.specs.declared.msg.Msg.{Msg}
 use Rattle.ring_records.specs.declared.packet.Packet.{Packet}
 use Rattle.ring_records.specs.declared.packet.Packet.TheVariants.{Carry}
 use Rattle.ring_records.specs.declared.refusal.Refusal.{Refusal}
-use Rattle.ring_records.specs.Admission.{IsAllowed, objection}
-use Rattle.ring_records.specs.Emission.{emit, sent, carry}
-use Rattle.ring_records.specs.Lists.{found_after}
+use Rattle.ring_records.specs.Allowed.{IsAllowed, objection}
+use Rattle.ring_records.specs.Emission.{emit, sent}
+use Rattle.ring_records.specs.Release.{carry}
 use Rattle.ring_records.proofs.Admission.{objection-allowed, allowed-free}
 use Rattle.ring_records.proofs.History.{sent-push}
 use Rattle.ring_audit.specs.declared.part.Part.{Part}

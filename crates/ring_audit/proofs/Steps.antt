@@ -15,7 +15,7 @@ use Rattle.ring_records.specs.Emission.{sent}
 use Rattle.ring_records.specs.History.{taken}
 use Rattle.ring_records.specs.Place.{before, after}
 use Rattle.ring_records.specs.Lists.{EachAfter}
-use Rattle.ring_records.specs.Admission.{IsAllowed}
+use Rattle.ring_records.specs.Allowed.{IsAllowed}
 use Rattle.ring_records.specs.Ring.{part as part_of, IsCarried, MayFollow, IsLegal}
 use Rattle.ring_records.proofs.Growth.{slice_get-append, EachAfter-at}
 use Rattle.ring_records.proofs.Lists.{EachAfter-push}

@@ -4,7 +4,7 @@ use Rattle.ring_records.specs.declared.input.Input.{Input}
 use Rattle.ring_records.specs.declared.msg.Msg.{Msg}
 use Rattle.ring_records.specs.declared.packet.Packet.{Packet}
 use Rattle.ring_records.specs.declared.packet.Packet.TheVariants.{Carry, Credit}
-use Rattle.ring_records.specs.Admission.{IsAllowed}
+use Rattle.ring_records.specs.Allowed.{IsAllowed}
 use Rattle.ring_records.specs.Emission.{sent}
 use Rattle.ring_records.specs.Lists.{EachAfter}
 use Rattle.ring_records.specs.Summary.{summary}

@@ -11,10 +11,10 @@ use Rattle.ring_records.specs.declared.input.Input.{Input}
 use Rattle.ring_records.specs.declared.input.Input.TheVariants.{Stand, Take, Acked, Retire}
 use Rattle.ring_records.specs.declared.msg.Msg.{Msg}
 use Rattle.ring_records.specs.declared.summary.Summary.{Summary}
-use Rattle.ring_records.specs.Admission.{newest, IsInTurn}
-use Rattle.ring_records.specs.Lawful.{IsAdmitted, IsLawful}
+use Rattle.ring_records.specs.Admission.{newest}
+use Rattle.ring_records.specs.Allowed.{IsInTurn}
+use Rattle.ring_records.specs.Lawful.{IsAdmitted, IsLawful, IsLawfulState}
 use Rattle.ring_records.specs.States.{NodeState, launched_base, opened, left_by}
-use Rattle.ring_records.specs.Lawful.{IsLawfulState}
 use Rattle.ring_records.specs.States as states
 use Rattle.ring_records.specs.Emission.{sent, emit}
 use Rattle.ring_records.specs.History.{upto_of, credit}

@@ -8,7 +8,8 @@ use Rattle.ring_records.specs.declared.input.Input.{Input}
 use Rattle.ring_records.specs.declared.msg.Msg.{Msg}
 use Rattle.ring_records.specs.declared.request.Request.{Request}
 use Rattle.ring_records.specs.Admission.{newest}
-use Rattle.ring_records.specs.States.{gained_by, opened}
+use Rattle.ring_records.specs.States.{opened}
+use Rattle.ring_records.specs.Serving.{gained_by}
 use Rattle.ring_records.specs.Lawful.{IsLawfulState}
 use Rattle.ring_records.specs.Emission.{sent}
 use Rattle.ring_records.specs.Member.{Member}

@@ -12,14 +12,14 @@ use Rattle.ring_records.specs.declared.candidate.Candidate.{Candidate}
 use Rattle.ring_records.specs.declared.msg.Msg.{Msg}
 use Rattle.ring_records.specs.declared.packet.Packet.{Packet}
 use Rattle.ring_records.specs.declared.packet.Packet.TheVariants.{Carry}
-use Rattle.ring_records.specs.Admission.{IsInTurn}
+use Rattle.ring_records.specs.Allowed.{IsInTurn}
 use Rattle.ring_records.specs.Lawful.{IsAdmitted, IsLawful}
 use Rattle.ring_records.specs.States.{NodeState, durable_in, flown_in, flying_in}
-use Rattle.ring_records.specs.Emission.{emit, sent, carry}
+use Rattle.ring_records.specs.Emission.{emit, sent}
+use Rattle.ring_records.specs.Release.{carry, carries, credits, credit_where, packets}
 use Rattle.ring_records.specs.History.{message_of, taken}
 use Rattle.ring_records.specs.Lists.{found_after}
 use Rattle.ring_records.specs.Message.{candidate_of}
-use Rattle.ring_records.specs.Release.{carries, credits, credit_where, packets}
 use Rattle.ring_records.proofs.Emission.{emit-candidate}
 use Rattle.std.proofs.lemmas.List.{take-append-drop}
 use Rattle.ring_records.proofs.Iteration.{IsItem, take-item}

@@ -9,7 +9,7 @@ use Rattle.ring_records.specs.declared.input.Input.{Input}
 use Rattle.ring_records.specs.declared.request.Request.{Request}
 use Rattle.ring_records.specs.declared.base.Base.{Base}
 use Rattle.ring_records.specs.Admission.{fresh, newest}
-use Rattle.ring_records.specs.Lawful.{IsLawful}
+use Rattle.ring_records.specs.Lawful.{IsLawful, IsLawfulState}
 use Rattle.disk_model.specs.Disk.{Reach, Reaches}
 use Rattle.disk_model.specs.FuseDevice.{inner_of, is_idle_device}
 use Rattle.disk_model.specs.MemDevice.{disk_of, limit_of}
@@ -20,11 +20,12 @@ use Rattle.gated_journal.specs.Reading.{device_size}
 use Rattle.gated_journal.specs.Unread.{header_at, IsFault, IsUnread}
 use Rattle.node_store.specs.Recovery.{IsNotLawful}
 use Rattle.ring_records.specs.Lists.{EachAfter}
-use Rattle.ring_records.specs.Answer.{Answered, gained, answered}
-use Rattle.ring_records.specs.States.{NodeState, launched_base, is_idle, gained_by, opened, landed}
-use Rattle.ring_records.specs.Lawful.{IsLawfulState}
+use Rattle.ring_records.specs.Answer.{Answered}
+use Rattle.ring_records.specs.Answering.{gained, answered}
+use Rattle.ring_records.specs.States.{NodeState, launched_base, is_idle, opened, landed}
+use Rattle.ring_records.specs.Serving.{gained_by}
 use Rattle.ring_records.specs.declared.summary.Summary.{Summary}
-use Rattle.ring_records.specs.Message.{is_outside}
+use Rattle.ring_records.specs.Outside.{is_outside}
 use Rattle.ring_records.specs.declared.refusal.Refusal.{Refusal}
 use Rattle.ring_records.specs.declared.refusal.Refusal.TheVariants.{Device, Failed, OutOfMemory}
 use Rattle.ring_records.specs.Member.{Member, member}

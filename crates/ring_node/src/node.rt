@@ -3,7 +3,8 @@ ghost use Rattle.std.specs.Prelude.{◌≡◌, ◌+◌, ◌-◌, ◌≤◌, ◌<
 ghost use Rattle.std.specs.List.{filter};
 ghost use Rattle.ring_records.specs.Emission.{sent};
 ghost use Rattle.ring_records.specs.Member.{member};
-ghost use Rattle.ring_records.specs.Message.{candidate_of, is_outside};
+ghost use Rattle.ring_records.specs.Message.{candidate_of};
+ghost use Rattle.ring_records.specs.Outside.{is_outside};
 ghost use Rattle.gated_journal.specs.Reading.{is_header};
 ghost use Rattle.ring_node.specs.Held.{IsShownBy};
 ghost use Rattle.ring_node.specs.Node.{new_node, durable_in, asked_with, flown, flushed, is_credited};

@@ -13,8 +13,9 @@ use Rattle.ring_records.specs.declared.msg.Msg.TheVariants.{Token, Elected}
 use Rattle.ring_records.specs.declared.packet.Packet.TheVariants.{Carry}
 use Rattle.ring_records.specs.declared.refusal.Refusal.TheVariants as refused
 use Rattle.ring_records.specs.declared.summary.Summary.{Summary}
-use Rattle.ring_records.specs.Admission.{IsAllowed, where_so, retired, already, is_touched, stale, out_of_turn, too_many, objection}
-use Rattle.ring_records.specs.Emission.{passed_on, emit, carry}
+use Rattle.ring_records.specs.Allowed.{IsAllowed, where_so, retired, already, is_touched, stale, out_of_turn, too_many, objection}
+use Rattle.ring_records.specs.Emission.{passed_on, emit}
+use Rattle.ring_records.specs.Release.{carry, credit_where, packets, carries, credits, decisions, numbered, window}
 use Rattle.ring_records.specs.Floors.{floor_of}
 use Rattle.ring_records.specs.History.{floor_for, floor, is_retired, if_live, is_named, touched, first_stand, stood, taken}
 use Rattle.ring_records.specs.KeyOrder.{group_cmp}
@@ -24,7 +25,6 @@ use Rattle.ring_records.specs.Decided.{newly, decided}
 use Rattle.ring_records.specs.Lists.{or_else, found_after, EachAfter}
 use Rattle.ring_records.specs.Message.{key_of, candidate_of}
 use Rattle.ring_records.specs.Order.{is_key}
-use Rattle.ring_records.specs.Release.{credit_where, packets, carries, credits, decisions, numbered, window}
 use Rattle.ring_records.proofs.Admission.{allowed-free, objection-allowed}
 use Rattle.ring_records.proofs.History.{leader-push, if_live-same, if_live-none}
 use Rattle.ring_records.proofs.Latest.{latest-same}

@@ -13,7 +13,7 @@ use Rattle.ring_records.specs.declared.input.Input.TheVariants.{Stand, Take, Ack
 use Rattle.ring_records.specs.declared.key.Key.{Key}
 use Rattle.ring_records.specs.declared.key_state.KeyState.{KeyState}
 use Rattle.ring_records.specs.declared.msg.Msg.{Msg}
-use Rattle.ring_records.specs.Admission.{IsInTurn, IsAllowed}
+use Rattle.ring_records.specs.Allowed.{IsInTurn, IsAllowed}
 use Rattle.ring_records.specs.History.{is_retired, names, is_named, touched, bid_for, first_stand, stood, is_live_stand, stands}
 use Rattle.ring_records.specs.KeyOrder.{key_cmp}
 use Rattle.ring_records.specs.KeyStates.{keyed, under_key}

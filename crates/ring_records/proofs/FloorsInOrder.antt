@@ -13,7 +13,8 @@ use Rattle.std.proofs.lemmas.Cmp.{on_total}
 use Rattle.std.proofs.lemmas.List.{get_or_read}
 use Rattle.std.proofs.lemmas.Map.Keys.{sorted_from_all_adjacent, Less-from_sorted}
 use Rattle.ring_records.specs.declared.key.Key.{Key}
-use Rattle.ring_records.specs.Floors.{by_group, under_group, floored, as_key, floor_keys}
+use Rattle.ring_records.specs.Floors.{as_key, floor_keys}
+use Rattle.ring_records.specs.FloorLists.{by_group, under_group, floored}
 use Rattle.ring_records.specs.KeyOrder.{group_cmp}
 use Rattle.ring_records.proofs.Entries.{both, first_of, second_of, is_less, less_is, each-entry, found-entry}
 

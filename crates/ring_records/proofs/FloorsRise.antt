@@ -8,7 +8,7 @@ use Rattle.ring_records.specs.declared.candidate.Candidate.{Candidate}
 use Rattle.ring_records.specs.declared.input.Input.{Input}
 use Rattle.ring_records.specs.declared.input.Input.TheVariants.{Stand, Take, Acked, Retire}
 use Rattle.ring_records.specs.declared.key.Key.{Key}
-use Rattle.ring_records.specs.Admission.{IsInTurn, IsAllowed}
+use Rattle.ring_records.specs.Allowed.{IsInTurn, IsAllowed}
 use Rattle.ring_records.specs.Notices.{IsNotBelow}
 use Rattle.ring_records.specs.History.{floor_for, floor, is_retired}
 use Rattle.ring_records.specs.Leader.{first_leader, leader, makes_leader, latest, term_of}

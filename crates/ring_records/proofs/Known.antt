@@ -14,7 +14,8 @@ use Rattle.ring_records.specs.declared.msg.Msg.{Msg}
 use Rattle.ring_records.specs.declared.msg.Msg.TheVariants.{Token, Elected}
 use Rattle.ring_records.specs.declared.refusal.Refusal.{Refusal}
 use Rattle.ring_records.specs.declared.refusal.Refusal.TheVariants as refused
-use Rattle.ring_records.specs.Admission.{is_retire, IsInTurn, IsAllowed, where_so, retired, already, is_touched, stale, too_many, objection}
+use Rattle.ring_records.specs.Admission.{is_retire}
+use Rattle.ring_records.specs.Allowed.{IsInTurn, IsAllowed, where_so, retired, already, is_touched, stale, too_many, objection}
 use Rattle.ring_records.specs.Emission.{passed_on, emit, sent}
 use Rattle.ring_records.specs.History.{floor_for, floor, is_retired, if_live, names, is_named, touched, bid_for, first_stand, stood, message_of, taken, upto_of, credit, is_live_stand, stands}
 use Rattle.ring_records.specs.Floors.{is_below_floor}

@@ -13,7 +13,8 @@ use Rattle.ring_records.specs.declared.decision.Decision.{Decision}
 use Rattle.ring_records.specs.declared.key.Key.{Key}
 use Rattle.ring_records.specs.declared.notice.Notice.{Notice}
 use Rattle.ring_records.specs.declared.notice.Notice.TheVariants.{Decided, Retired}
-use Rattle.ring_records.specs.Leader.{IsLatest, term_of}
+use Rattle.ring_records.specs.Leader.{term_of}
+use Rattle.ring_records.specs.Latest.{IsLatest}
 use Rattle.ring_records.specs.Lists.{first, found_after, or_else}
 use Rattle.ring_records.specs.Notices.{named_by, first_named, term_for, top_term, floor_by, floor_in, leader_in, leads_in, IsNotBelow}
 use Rattle.ring_records.specs.Order.{is_key}

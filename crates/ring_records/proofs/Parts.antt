@@ -7,7 +7,7 @@ use Rattle.std.proofs.lemmas.List.Elements.{Contains-push_cases, Contains-append
 use Rattle.ring_records.specs.declared.msg.Msg.{Msg}
 use Rattle.ring_records.specs.declared.input.Input.{Input}
 use Rattle.ring_records.specs.declared.input.Input.TheVariants.{Stand, Take, Acked, Retire}
-use Rattle.ring_records.specs.Admission.{IsAllowed}
+use Rattle.ring_records.specs.Allowed.{IsAllowed}
 use Rattle.ring_records.specs.Emission.{emit, sent}
 use Rattle.ring_records.specs.History.{message_of, taken}
 use Rattle.ring_records.specs.Lists.{EachAfter, found_after}

@@ -14,7 +14,8 @@ use Rattle.ring_records.specs.declared.input.Input.{Input}
 use Rattle.ring_records.specs.declared.input.Input.TheVariants.{Stand, Take, Acked, Retire}
 use Rattle.ring_records.specs.declared.key.Key.{Key}
 use Rattle.ring_records.specs.declared.key_state.KeyState.{KeyState}
-use Rattle.ring_records.specs.Admission.{is_retire, IsInTurn, IsAllowed}
+use Rattle.ring_records.specs.Admission.{is_retire}
+use Rattle.ring_records.specs.Allowed.{IsInTurn, IsAllowed}
 use Rattle.ring_records.specs.Emission.{emit, sent}
 use Rattle.ring_records.specs.History.{floor_for, floor, is_retired, names, is_named, bid_for, first_stand, stood, message_of, taken, upto_of, credit, stands}
 use Rattle.ring_records.specs.KeyOrder.{key_cmp}

@@ -16,7 +16,8 @@ use Rattle.ring_records.specs.declared.refusal.Refusal.{Refusal}
 use Rattle.ring_records.specs.declared.refusal.Refusal.TheVariants as refused
 use Rattle.ring_records.specs.declared.snapshot_read.Counts.{Counts}
 use Rattle.ring_records.specs.declared.summary.Summary.{Summary}
-use Rattle.ring_records.specs.Floors.{floored, floor_keys, IsLive}
+use Rattle.ring_records.specs.Floors.{floor_keys, IsLive}
+use Rattle.ring_records.specs.FloorLists.{floored}
 use Rattle.ring_records.specs.KeyOrder.{key_cmp, group_cmp}
 use Rattle.ring_records.specs.KeyStates.{under_key, keyed}
 use Rattle.ring_records.specs.Record.{AreBytes, key_bytes, IsKeyInRange}

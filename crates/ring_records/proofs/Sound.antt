@@ -20,7 +20,7 @@ use Rattle.ring_records.specs.declared.msg.Msg.{Msg}
 use Rattle.ring_records.specs.declared.msg.Msg.TheVariants.{Token, Elected}
 use Rattle.ring_records.specs.declared.refusal.Refusal.TheVariants as refused
 use Rattle.ring_records.specs.declared.summary.Summary.{Summary}
-use Rattle.ring_records.specs.Admission.{IsAllowed, where_so, already, stale, out_of_turn}
+use Rattle.ring_records.specs.Allowed.{IsAllowed, where_so, already, stale, out_of_turn}
 use Rattle.ring_records.specs.Emission.{is_below, sent}
 use Rattle.ring_records.specs.Floors.{floor_of, is_below_floor, IsLive}
 use Rattle.ring_records.specs.History.{taken, credit, stands}

@@ -8,12 +8,14 @@ use Rattle.ring_records.specs.declared.input.Input.{Input}
 use Rattle.ring_records.specs.declared.refusal.Refusal.{Refusal}
 use Rattle.ring_records.specs.declared.request.Request.{Request}
 use Rattle.ring_records.specs.Admission.{base_of, fresh, newest, refusal, IsBaseOf}
-use Rattle.ring_records.specs.Lawful.{Fits, IsAdmitted, IsLawful}
-use Rattle.ring_records.specs.Answer.{input_of, if_free, if_input, gained}
+use Rattle.ring_records.specs.Lawful.{Fits, IsAdmitted, IsLawful, IsNodeState, IsLawfulState}
+use Rattle.ring_records.specs.Answer.{input_of, if_free}
+use Rattle.ring_records.specs.Answering.{if_input, gained}
+use Rattle.ring_records.specs.Answer as by_rule
 use Rattle.ring_records.specs.Lists.{EachAfter}
 use Rattle.ring_records.specs.Member.{Member}
-use Rattle.ring_records.specs.States.{NodeState, launched_base, is_idle, durable_in, flown_in, gained_by, opened, asked, launched, next_base, launched_all, landed, left_by}
-use Rattle.ring_records.specs.Lawful.{IsNodeState, IsLawfulState}
+use Rattle.ring_records.specs.States.{NodeState, launched_base, is_idle, durable_in, flown_in, opened, launched, landed, left_by}
+use Rattle.ring_records.specs.Serving.{gained_by, asked, next_base, launched_all}
 use Rattle.ring_records.specs.Summary.{summary}
 use Rattle.ring_records.proofs.Admission.{refusal-admitted}
 use Rattle.ring_records.proofs.Growth.{EachAfter-take}
@@ -52,7 +54,7 @@ unfolding IsLawful
 lawful-first me n capacity b k h lawful = EachAfter-take (IsAdmitted me n capacity b) k h lawful
 
 pub lawful-gained : (me n capacity : ℕ) (b : Base) (h : List Input) (q : Request) → IsLawful me n capacity b h → IsLawful me n capacity b (h ++ gained me n capacity b h q)
-unfolding IsLawful gained
+unfolding IsLawful by_rule.gained
 lawful-gained me n capacity b h q lawful = asks (input_of q)
   where
     free : (x : Input) (o : Option Refusal) → refusal me n capacity b h x ≡ o → EachAfter (IsAdmitted me n capacity b) [] (h ++ if_free o x)

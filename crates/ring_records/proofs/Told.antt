@@ -15,9 +15,10 @@ use Rattle.ring_records.specs.declared.key.Key.{Key}
 use Rattle.ring_records.specs.declared.msg.Msg.{Msg}
 use Rattle.ring_records.specs.declared.notice.Notice.{Notice}
 use Rattle.ring_records.specs.declared.notice.Notice.TheVariants.{Decided, Retired}
-use Rattle.ring_records.specs.Admission.{IsInTurn, IsAllowed}
+use Rattle.ring_records.specs.Allowed.{IsInTurn, IsAllowed}
 use Rattle.ring_records.specs.History.{floor_for, floor, is_retired}
-use Rattle.ring_records.specs.Leader.{makes_leader, first_leader, leader, latest, term_of, IsLatest}
+use Rattle.ring_records.specs.Leader.{makes_leader, first_leader, leader, latest, term_of}
+use Rattle.ring_records.specs.Latest.{IsLatest}
 use Rattle.ring_records.specs.Decided.{decided, told}
 use Rattle.ring_records.specs.Lists.{first, found_after, or_else, EachAfter}
 use Rattle.ring_records.specs.Notices.{named_by, first_named, top_term, floor_by, floor_in, leader_in, leads_in}

@@ -7,8 +7,10 @@ use Rattle.ring_records.specs.declared.msg.Msg.TheVariants.{Token, Elected}
 use Rattle.ring_records.specs.declared.refusal.Refusal.TheVariants as refused
 use Rattle.ring_records.specs.declared.reply.Reply.TheVariants as say
 use Rattle.ring_records.specs.declared.request.Request.TheVariants as ask
-use Rattle.ring_records.specs.Admission.{fresh, cost, used, IsInTurn, retired, already, is_touched, stale, too_many, objection, shortage, refusal}
-use Rattle.ring_records.specs.Answer.{reply}
+use Rattle.ring_records.specs.Admission.{fresh, cost, used, shortage, refusal}
+use Rattle.ring_records.specs.Allowed.{IsInTurn, retired, already, is_touched, stale, too_many, objection}
+use Rattle.ring_records.specs.Answering.{reply}
+use Rattle.ring_records.specs.Answer as by_rule
 use Rattle.ring_records.specs.Emission.{passed_on, is_below, emit, sent}
 use Rattle.ring_records.specs.History.{floor_for, floor, is_retired, names, is_named, touched, bid_for, first_stand, stood, message_of, taken, is_live_stand, stands}
 use Rattle.ring_records.specs.Leader.{is_bid, makes_leader, first_leader, leader, with_term, term_led, greater_term, latest}
@@ -46,25 +48,25 @@ relay_legal = (
 )
 
 pub relay_sent : sent 1 (part retired_relay 1) ≡ Token (red 9) alone ∷ Elected (red 9) alone ∷ []
-unfolding objection refusal shortage too_many retired is_touched already stale cost used reply floor_for floor is_retired names is_named touched bid_for first_stand stood message_of taken is_live_stand stands is_below is_less is_key passed_on emit sent is_bid makes_leader first_leader leader first found_after before after item_at part latest term_led with_term greater_term
+unfolding objection by_rule.refusal shortage too_many retired is_touched already stale cost used by_rule.reply floor_for floor is_retired names is_named touched bid_for first_stand stood message_of taken is_live_stand stands is_below is_less is_key passed_on emit sent is_bid makes_leader first_leader leader first found_after before after item_at part latest term_led with_term greater_term
 relay_sent = refl
 
 pub relay_stand : refusal 1 2 65536 fresh (part retired_relay 1) (Stand (red 8) 5) ≡ Some (refused.Retired 9)
-unfolding objection refusal shortage too_many retired is_touched already stale cost used reply floor_for floor is_retired names is_named touched bid_for first_stand stood message_of taken is_live_stand stands is_below is_less is_key passed_on emit sent is_bid makes_leader first_leader leader first found_after before after item_at part latest term_led with_term greater_term
+unfolding objection by_rule.refusal shortage too_many retired is_touched already stale cost used by_rule.reply floor_for floor is_retired names is_named touched bid_for first_stand stood message_of taken is_live_stand stands is_below is_less is_key passed_on emit sent is_bid makes_leader first_leader leader first found_after before after item_at part latest term_led with_term greater_term
 relay_stand = refl
 
 pub relay_same : refusal 1 2 65536 fresh (part retired_relay 1) (Retire (codes "red") 9) ≡ Some (refused.Retired 9)
-unfolding objection refusal shortage too_many retired is_touched already stale cost used reply floor_for floor is_retired names is_named touched bid_for first_stand stood message_of taken is_live_stand stands is_below is_less is_key passed_on emit sent is_bid makes_leader first_leader leader first found_after before after item_at part latest term_led with_term greater_term
+unfolding objection by_rule.refusal shortage too_many retired is_touched already stale cost used by_rule.reply floor_for floor is_retired names is_named touched bid_for first_stand stood message_of taken is_live_stand stands is_below is_less is_key passed_on emit sent is_bid makes_leader first_leader leader first found_after before after item_at part latest term_led with_term greater_term
 relay_same = refl
 
 pub relay_above : refusal 1 2 65536 fresh (part retired_relay 1) (Retire (codes "red") 10) ≡ Some refused.Undecided
-unfolding objection refusal shortage too_many retired is_touched already stale cost used reply floor_for floor is_retired names is_named touched bid_for first_stand stood message_of taken is_live_stand stands is_below is_less is_key passed_on emit sent is_bid makes_leader first_leader leader first found_after before after item_at part latest term_led with_term greater_term
+unfolding objection by_rule.refusal shortage too_many retired is_touched already stale cost used by_rule.reply floor_for floor is_retired names is_named touched bid_for first_stand stood message_of taken is_live_stand stands is_below is_less is_key passed_on emit sent is_bid makes_leader first_leader leader first found_after before after item_at part latest term_led with_term greater_term
 relay_above = refl
 
 pub relay_who : reply 1 2 65536 fresh (part retired_relay 1) (ask.Who (red 4)) ≡ say.Refused (refused.Retired 9)
-unfolding objection refusal shortage too_many retired is_touched already stale cost used reply floor_for floor is_retired names is_named touched bid_for first_stand stood message_of taken is_live_stand stands is_below is_less is_key passed_on emit sent is_bid makes_leader first_leader leader first found_after before after item_at part latest term_led with_term greater_term
+unfolding objection by_rule.refusal shortage too_many retired is_touched already stale cost used by_rule.reply floor_for floor is_retired names is_named touched bid_for first_stand stood message_of taken is_live_stand stands is_below is_less is_key passed_on emit sent is_bid makes_leader first_leader leader first found_after before after item_at part latest term_led with_term greater_term
 relay_who = refl
 
 pub relay_leads : reply 1 2 65536 fresh (part retired_relay 1) (ask.Who (red 9)) ≡ say.Leader (Some alone)
-unfolding objection refusal shortage too_many retired is_touched already stale cost used reply floor_for floor is_retired names is_named touched bid_for first_stand stood message_of taken is_live_stand stands is_below is_less is_key passed_on emit sent is_bid makes_leader first_leader leader first found_after before after item_at part latest term_led with_term greater_term
+unfolding objection by_rule.refusal shortage too_many retired is_touched already stale cost used by_rule.reply floor_for floor is_retired names is_named touched bid_for first_stand stood message_of taken is_live_stand stands is_below is_less is_key passed_on emit sent is_bid makes_leader first_leader leader first found_after before after item_at part latest term_led with_term greater_term
 relay_leads = refl

@@ -1,7 +1,7 @@
 -- That the worked run is legal, and who leads at its end.
 use Rattle.std.proofs.Common.{◌≡◌, Bool, true, false, cond, ltb, Option, Some, None, refl, lit<, lit≤}
 use Rattle.ring_records.specs.declared.candidate.Candidate.{Candidate}
-use Rattle.ring_records.specs.Admission.{IsInTurn}
+use Rattle.ring_records.specs.Allowed.{IsInTurn}
 use Rattle.ring_records.specs.Emission.{is_below, passed_on, emit, sent}
 use Rattle.ring_records.specs.History.{floor_for, floor, is_retired, names, is_named, touched, bid_for, first_stand, stood, message_of, taken, is_live_stand, stands}
 use Rattle.ring_records.specs.Leader.{is_bid, makes_leader, first_leader, leader}

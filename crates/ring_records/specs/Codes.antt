@@ -9,8 +9,7 @@ use Rattle.ring_records.specs.declared.msg.Msg.{Msg}
 use Rattle.ring_records.specs.declared.msg.Msg.TheVariants.{Token, Elected}
 use Rattle.ring_records.specs.declared.summary.Summary.{Summary}
 use Rattle.ring_records.specs.KeyOrder.{key_cmp, group_cmp}
-use Rattle.ring_records.specs.Coded.{coded_key, coded_group}
-use Rattle.ring_records.specs.Coded.{coded_candidate, coded_state}
+use Rattle.ring_records.specs.Coded.{coded_key, coded_group, coded_candidate, coded_state}
 
 abbrev split : Msg → Bool × (Key × Candidate)
 split (Token key candidate) = (true, (key, candidate))

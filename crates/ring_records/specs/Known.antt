@@ -15,10 +15,11 @@ use Rattle.ring_records.specs.declared.msg.Msg.TheVariants.{Token, Elected}
 use Rattle.ring_records.specs.declared.refusal.Refusal.{Refusal}
 use Rattle.ring_records.specs.declared.refusal.Refusal.TheVariants as refused
 use Rattle.ring_records.specs.declared.summary.Summary.{Summary}
-use Rattle.ring_records.specs.Admission.{where_so, already, stale, out_of_turn}
+use Rattle.ring_records.specs.Allowed.{where_so, already, stale, out_of_turn}
 use Rattle.ring_records.specs.Emission.{is_below}
 use Rattle.ring_records.specs.Floors.{floor_of, is_below_floor}
-use Rattle.ring_records.specs.Leader.{IsLatest, is_bid, term_of}
+use Rattle.ring_records.specs.Leader.{is_bid, term_of}
+use Rattle.ring_records.specs.Latest.{IsLatest}
 use Rattle.ring_records.specs.Lists.{or_else}
 use Rattle.ring_records.specs.Message.{key_of, candidate_of}
 use Rattle.ring_records.specs.Snapshot.{has_stood}

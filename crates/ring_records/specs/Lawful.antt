@@ -5,7 +5,8 @@ use Rattle.ring_records.specs.declared.input.Input.{Input}
 use Rattle.ring_records.specs.declared.room.Room.{Room}
 use Rattle.ring_records.specs.Lists.{EachAfter}
 use Rattle.ring_records.specs.Summary.{summary}
-use Rattle.ring_records.specs.Admission.{snapshot_len, newest, epochs, cost, room_of, must_renew, IsAllowed, IsBaseOf}
+use Rattle.ring_records.specs.Admission.{snapshot_len, newest, epochs, cost, room_of, must_renew, IsBaseOf}
+use Rattle.ring_records.specs.Allowed.{IsAllowed}
 use Rattle.ring_records.specs.Member.{Member}
 use Rattle.ring_records.specs.States.{NodeState, launched_base, durable_in, flown_in}
 

@@ -1,17 +1,8 @@
--- The state of a durable node, with what the areas of its journal stand for: what may happen to it, and what the node
--- accepts and answers in it.
-use Rattle.std.specs.Prelude.{ℕ, ◌+◌, ◌-◌, min, Bool, ◌&&◌, if◌then◌else◌, nat_eq, List, ◌++◌, length, take, drop, Option, Some, None, unwrap_or, is_none}
+-- The state of a durable node, with what the areas of its journal stand for, and what may happen to it.
+use Rattle.std.specs.Prelude.{ℕ, ◌+◌, ◌-◌, min, Bool, ◌&&◌, if◌then◌else◌, nat_eq, List, length, take, drop, Option, None, unwrap_or, is_none}
 use Rattle.ring_records.specs.declared.base.Base.{Base}
 use Rattle.ring_records.specs.declared.input.Input.{Input}
 use Rattle.ring_records.specs.declared.limits.TheConstants.{BATCH_INPUTS}
-use Rattle.ring_records.specs.declared.request.Request.{Request}
-use Rattle.ring_records.specs.declared.shown.Shown.{Shown}
-use Rattle.ring_records.specs.Admission.{base_of, newest}
-use Rattle.ring_records.specs.Answer.{Answered, gained, answered}
-use Rattle.ring_records.specs.Emission.{sent}
-use Rattle.ring_records.specs.History.{taken, credit}
-use Rattle.ring_records.specs.Member.{Member}
-use Rattle.ring_records.specs.Summary.{summary}
 
 -- ---- the state
 
@@ -44,41 +35,15 @@ flown_in s = take s.flying s.inputs
 abbrev pub flying_in : NodeState → List Input
 flying_in s = take (s.flying - s.durable) (drop s.durable s.inputs)
 
--- what node me shows in this state
-abbrev pub shown_in : ℕ → NodeState → Shown
-shown_in me s = record { inputs = length s.inputs; durable = s.durable; sent = length (sent me s.inputs); taken = length (taken s.inputs); credit = credit s.inputs }
-
--- ---- what the node accepts and answers
-
--- the inputs, one or none, that it gains by a request
-abbrev pub gained_by : Member → NodeState → Request → List Input
-gained_by m s q = gained m.node m.n m.capacity (launched_base s) s.inputs q
-
--- the request with its answer
-abbrev pub answered_by : Member → NodeState → Request → Answered
-answered_by m s q = answered m.node m.n m.capacity (launched_base s) s.inputs q
-
 -- ---- what may happen
 
 -- it is opened with these inputs, all of them durable
 abbrev pub opened : Base → List Input → NodeState
 opened b l = record { inputs = l; durable = length l; flying = length l; base = b; checkpoint = None }
 
--- it accepts what a request asks
-abbrev pub asked : Member → NodeState → Request → NodeState
-asked m s q = record s { inputs = s.inputs ++ gained_by m s q }
-
 -- the first waiting inputs fly, as many as a batch may have
 abbrev pub launched : NodeState → NodeState
 launched s = record s { flying = min (s.durable + BATCH_INPUTS) (length s.inputs) }
-
--- what the next area of node me stands for, behind this one, where all of h is summarised
-abbrev pub next_base : ℕ → Base → List Input → Base
-next_base me b h = base_of newest (b.epoch + 1) (summary me h)
-
--- all its inputs fly, as a checkpoint
-abbrev pub launched_all : ℕ → NodeState → NodeState
-launched_all me s = record s { flying = length s.inputs; checkpoint = Some (next_base me s.base s.inputs) }
 
 -- what flies is durable
 abbrev pub landed : NodeState → NodeState

@@ -2,7 +2,8 @@
 ghost use Rattle.std.specs.Prelude.{◌≡◌, Decides};
 ghost use Rattle.std.specs.List.Sorted.{IsStrictlySortedBy};
 ghost use Rattle.std.specs.FinMap as map;
-ghost use Rattle.ring_records.specs.Floors.{by_group, floored, floor_keys};
+ghost use Rattle.ring_records.specs.Floors.{floor_keys};
+ghost use Rattle.ring_records.specs.FloorLists.{by_group, floored};
 
 use crate::Key;
 use std::marker::Model;
@@ -21,7 +22,7 @@ impl Model for Floors {
     ghost use Rattle.std.specs.List.Sorted.{IsStrictlySortedBy};
     ghost use Rattle.ring_records.specs.KeyOrder.{group_cmp};
     ghost use Rattle.ring_records.specs.Coded.{coded_group};
-    ghost use Rattle.ring_records.specs.Floors.{by_group, floored};
+    ghost use Rattle.ring_records.specs.FloorLists.{by_group, floored};
 
     ghost Value = { map.FinMap group_cmp ℕ };
 

@@ -9,8 +9,7 @@ ghost use Rattle.ring_records.specs.declared.refusal.Refusal.TheVariants.{Damage
 ghost use Rattle.ring_records.specs.KeyStates.{by_state};
 ghost use Rattle.ring_records.specs.RecordReading.{Finds, number_at, key_at};
 ghost use Rattle.ring_records.specs.Snapshot.{Spells, has_stood};
-ghost use Rattle.ring_records.specs.SnapshotRead.{candidate_in, state_behind, state_at, named_at, token_of, elected_of, msg_behind, msg_at, items_at};
-ghost use Rattle.ring_records.specs.SnapshotRead.{counts_at, some_floors_at, floors_at, parts_at, IsBroken};
+ghost use Rattle.ring_records.specs.SnapshotRead.{candidate_in, state_behind, state_at, named_at, token_of, elected_of, msg_behind, msg_at, items_at, counts_at, some_floors_at, floors_at, parts_at, IsBroken};
 
 use crate::record::{RecordFault, bid_of, byte_of, candidate_of, key_of, u32_of, u64_of};
 use crate::snapshot::has_floors;

@@ -6,7 +6,8 @@ use Rattle.disk_model.proofs.Moments.{weaken}
 use Rattle.ring_records.specs.declared.input.Input.{Input}
 use Rattle.ring_records.specs.declared.packet.Packet.{Packet}
 use Rattle.ring_records.specs.declared.summary.Summary.{Summary}
-use Rattle.ring_records.specs.Answer.{Answered, Answers, PacketRests}
+use Rattle.ring_records.specs.Answer.{Answered, PacketRests}
+use Rattle.ring_records.specs.Answering.{Answers}
 use Rattle.ring_records.specs.Member.{Member}
 use Rattle.ring_records.specs.States.{left_by}
 use Rattle.ring_records.proofs.Prefixes.{prefix_shorter, prefix_trans}

@@ -13,7 +13,7 @@ use Rattle.ring_records.specs.declared.input.Input.{Input}
 use Rattle.ring_records.specs.declared.key.Key.{Key}
 use Rattle.ring_records.specs.declared.notice.Notice.{Notice}
 use Rattle.ring_records.specs.declared.notice.Notice.TheVariants.{Decided, Retired}
-use Rattle.ring_records.specs.Admission.{IsAllowed}
+use Rattle.ring_records.specs.Allowed.{IsAllowed}
 use Rattle.ring_records.specs.Floors.{floor_keys}
 use Rattle.ring_records.specs.History.{floor}
 use Rattle.ring_records.specs.Leader.{first_leader, latest, leader}

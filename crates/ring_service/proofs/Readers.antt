@@ -18,10 +18,13 @@ use Rattle.ring_records.specs.declared.refusal.Refusal.{Refusal}
 use Rattle.ring_records.specs.declared.reply.Reply.{Reply}
 use Rattle.ring_records.specs.declared.reply.Reply.TheVariants as replied
 use Rattle.ring_records.specs.declared.request.Request.{Request}
-use Rattle.ring_records.specs.Admission.{retired}
-use Rattle.ring_records.specs.Answer.{Answer, reply, unless}
+use Rattle.ring_records.specs.Allowed.{retired}
+use Rattle.ring_records.specs.Answer.{Answer, unless}
+use Rattle.ring_records.specs.Answering.{reply}
+use Rattle.ring_records.specs.Answer as by_rule
 use Rattle.ring_records.specs.History.{floor_for}
-use Rattle.ring_records.specs.Leader.{IsLatest, first_leader, latest, leader}
+use Rattle.ring_records.specs.Leader.{first_leader, latest, leader}
+use Rattle.ring_records.specs.Latest.{IsLatest}
 use Rattle.ring_records.specs.Decided.{told}
 use Rattle.ring_records.specs.Lists.{first, found_after}
 use Rattle.ring_records.specs.Notices.{first_named, leader_in, leads_in, named_by}
@@ -184,7 +187,7 @@ tells None l c e = (let p : l ≡ Some c = cc in p)
 tells (Some r) l c e = absurd cc
 
 reply_names : (me n capacity : ℕ) (base : Base) (h : List Input) (q : Request) (key : Key) (c : Candidate) → Names q (reply me n capacity base h q) key c → leader me h key ≡ Some c
-unfolding reply
+unfolding by_rule.reply
 reply_names me n capacity base h q key c (inl who) =
     tells (retired h key) (leader me h key) c (subst (λ (x : Request). reply me n capacity base h x ≡ replied.Leader (Some c)) who.0 who.1)
 reply_names me n capacity base h q key c (inr last) =

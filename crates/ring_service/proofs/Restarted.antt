@@ -10,10 +10,11 @@ use Rattle.ring_records.specs.declared.key.Key.{Key}
 use Rattle.ring_records.specs.declared.notice.Notice.{Notice}
 use Rattle.ring_records.specs.declared.notice.Notice.TheVariants.{Decided}
 use Rattle.ring_records.specs.History.{floor, is_retired}
-use Rattle.ring_records.specs.Admission.{IsAllowed}
+use Rattle.ring_records.specs.Allowed.{IsAllowed}
 use Rattle.ring_records.specs.Lists.{EachAfter}
 use Rattle.ring_records.specs.Notices.{floor_in, leader_in, leads_in, IsNotBelow}
-use Rattle.ring_records.specs.Leader.{IsLatest, first_leader, latest, leader, term_of}
+use Rattle.ring_records.specs.Leader.{first_leader, latest, leader, term_of}
+use Rattle.ring_records.specs.Latest.{IsLatest}
 use Rattle.ring_records.proofs.FloorsRise.{floor-at_most, floor-rises}
 use Rattle.ring_records.proofs.Growth.{first_leader-kept, EachAfter-front}
 use Rattle.ring_records.proofs.History.{if_live-same, if_live-some}

@@ -6,7 +6,7 @@ use Rattle.ring_records.specs.declared.reply.Reply.{Reply}
 use Rattle.ring_records.specs.declared.reply.Reply.TheVariants as replied
 use Rattle.ring_records.specs.declared.request.Request.{Request}
 use Rattle.ring_records.specs.declared.request.Request.TheVariants.{Stand, Take, Acked, Retire, Who, Latest}
-use Rattle.ring_records.specs.Leader.{IsLatest}
+use Rattle.ring_records.specs.Latest.{IsLatest}
 use Rattle.ring_records.specs.Notices.{leader_in, leads_in}
 
 -- the greatest term of the group with a leader in the list that is seen, and that leader

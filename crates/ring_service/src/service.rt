@@ -1,6 +1,6 @@
 //! A service over a hub and the board of its node.
 ghost use Rattle.std.specs.Prelude.{◌≡◌, false, Some, None, is_some, IfErr, IfOk, IfSome};
-ghost use Rattle.ring_records.specs.Message.{is_outside};
+ghost use Rattle.ring_records.specs.Outside.{is_outside};
 ghost use Rattle.decision_board.specs.Boards.{seen};
 
 use commit_hub::{Begun, Hub, NodeLedger, Share};

@@ -2,9 +2,8 @@
 ghost use Rattle.std.specs.Prelude.{◌≡◌, ◌<◌, ◌≤◌, ◌||◌, true, false, nat_lt, is_none, Option, Some, None, IfOk, IfSome, map, codes, unwrap_or};
 ghost use Rattle.ring_records.specs.declared.limits.TheConstants.{DOORS};
 ghost use Rattle.clap.specs.Words.{app_of, first_value, found_of, one_text, rule_of, with_rule};
-ghost use Rattle.ring_service.specs.Words.{AreTold, Flag, IsForm, IsIn, IsMatched, IsRing, IsSaid};
+ghost use Rattle.ring_service.specs.Words.{AreTold, Flag, IsForm, IsIn, IsMatched, IsRing, IsSaid, ringd_app};
 ghost use Rattle.ring_service.specs.Hosts.{IsHost};
-ghost use Rattle.ring_service.specs.Words.{ringd_app};
 
 mod args;
 

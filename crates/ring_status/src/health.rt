@@ -1,8 +1,7 @@
 // Whether each node takes what it should, and whether the ring can elect.
 ghost use Rattle.std.specs.Prelude.{◌≡◌, ◌++◌, OnOk, IfOk, string_bytes};
 ghost use Rattle.std.specs.List.{flat_map, list_all, list_any};
-ghost use Rattle.ring_status.specs.Health.{all_well, blocked_text, can_elect, carries, doorless_text, fault_text, hangs, has_failed, health_body};
-ghost use Rattle.ring_status.specs.Health.{help_for, help_line, is_at_limit, is_full, is_well, not_ready, ready_body};
+ghost use Rattle.ring_status.specs.Health.{all_well, blocked_text, can_elect, carries, doorless_text, fault_text, hangs, has_failed, health_body, help_for, help_line, is_at_limit, is_full, is_well, not_ready, ready_body};
 
 use crate::values::{Condition, NodeStatus};
 use ring_records::NodeNo;

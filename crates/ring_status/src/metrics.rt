@@ -1,8 +1,7 @@
 // The text for Prometheus.
 ghost use Rattle.std.specs.Prelude.{◌≡◌, ◌++◌, IfOk, OnOk, option_map, string_bytes};
 ghost use Rattle.std.specs.List.{flat_map};
-ghost use Rattle.ring_status.specs.Metrics.{begun_family, gauge_of, max_family, open_family, process_families, process_family, program_told, resident_family, value_line};
-ghost use Rattle.ring_status.specs.Metrics.{bucket, commit_count, commit_samples, commit_sum, commit_totals, commits_family, commits_head, family_of, head_of, identity_family, identity_sample, metrics_told, refusal_sample, refusal_samples, refusals_family, refusals_head, sample, layout_label, started_family, version_family, version_start, within_sample};
+ghost use Rattle.ring_status.specs.Metrics.{begun_family, gauge_of, max_family, open_family, process_families, process_family, program_told, resident_family, value_line, bucket, commit_count, commit_samples, commit_sum, commit_totals, commits_family, commits_head, family_of, head_of, identity_family, identity_sample, metrics_told, refusal_sample, refusal_samples, refusals_family, refusals_head, sample, layout_label, started_family, version_family, version_start, within_sample};
 
 use crate::metric::Metric;
 use crate::process::Process;

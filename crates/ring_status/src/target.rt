@@ -1,7 +1,6 @@
 // What a target asks.
 ghost use Rattle.std.specs.Prelude.{◌≡◌, ◌==◌, ok_or, option_map, position};
-ghost use Rattle.ring_status.specs.Targets.{above_in, after_in, asked_of, cut_at, group_word, held_in, leader_of, next_by, next_of, node_in, node_word, page_for};
-ghost use Rattle.ring_status.specs.Targets.{number_in, page_by_one, page_by_two, page_of, target_of, wait_in, waited};
+ghost use Rattle.ring_status.specs.Targets.{above_in, after_in, asked_of, cut_at, group_word, held_in, leader_of, next_by, next_of, node_in, node_word, page_for, number_in, page_by_one, page_by_two, page_of, target_of, wait_in, waited};
 
 use crate::status::Status;
 use line_words::{behind, read_group, read_number};

@@ -9,7 +9,7 @@ use Rattle.ring_records.specs.declared.base.Base.{Base}
 use Rattle.ring_records.specs.declared.input.Input.{Input}
 use Rattle.ring_records.specs.declared.input.Input.TheVariants.{Stand, Take, Acked, Retire}
 use Rattle.ring_records.specs.declared.msg.Msg.{Msg}
-use Rattle.ring_records.specs.Admission.{IsInTurn}
+use Rattle.ring_records.specs.Allowed.{IsInTurn}
 use Rattle.ring_records.specs.Lawful.{IsAdmitted, IsLawful}
 use Rattle.ring_records.specs.Emission.{sent}
 use Rattle.ring_records.specs.Fitting.{LinkFits}
@@ -22,9 +22,10 @@ use Rattle.ring_records.proofs.History.{taken-push}
 use Rattle.ring_records.proofs.Leader.{Contains-here, Contains-later, Contains-filter_map_from}
 use Rattle.ring_records.proofs.Lists.{along, none≢some}
 use Rattle.ring_records.proofs.States.{lawful-first}
-use Rattle.ring_world.specs.Committed.{committed}
-use Rattle.ring_world.specs.Events.{Action, state_after, IsSchedule}
-use Rattle.ring_world.proofs.Schedules.{schedule_holds}
+use Rattle.ring_world.specs.Capacity.{committed, state_after}
+use Rattle.ring_world.specs.Events.{Action}
+use Rattle.ring_world.specs.Schedule.{IsSchedule}
+use Rattle.ring_world.proofs.Served.{schedule_holds}
 
 -- ---- the last credit and the last message
 

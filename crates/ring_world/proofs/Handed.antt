@@ -12,13 +12,17 @@ use Rattle.ring_records.specs.declared.request.Request.{Request}
 use Rattle.ring_records.specs.declared.request.Request.TheVariants as ask
 use Rattle.ring_records.specs.Answer.{PacketRests}
 use Rattle.ring_records.specs.History.{taken}
-use Rattle.ring_records.specs.Order.{is_key, is_candidate, is_msg}
+use Rattle.ring_records.specs.Order.{is_key}
+use Rattle.ring_world.specs.Ring.{is_candidate, is_msg, RingView, node_at, handed, is_sent, message, is_earned, is_released}
 use Rattle.ring_records.specs.Place.{after, before}
 use Rattle.ring_records.specs.States.{durable_in}
 use Rattle.ring_records.proofs.Keys.{is_key-true, is_key-same}
-use Rattle.ring_world.specs.Events.{Sent, Rests, Action, Release, Process, process, IsDelivered, IsReleasable, IsSchedule}
-use Rattle.ring_world.specs.Ring.{RingView, node_at, handed, is_sent, message, is_earned, is_released}
+use Rattle.ring_world.specs.Events.{Sent, Action, Release, Process}
+use Rattle.ring_world.specs.Capacity.{process}
+use Rattle.ring_world.specs.Schedule.{IsReleasable, IsSchedule}
+use Rattle.ring_world.specs.Schedules.{Rests, IsDelivered}
 use Rattle.ring_world.specs.Start.{all_fresh}
+use Rattle.ring_world.specs.Schedules as scheduled
 use Rattle.ring_world.proofs.Moves.{Stays, release_one, release_none}
 
 is_candidate-true : (a b : Candidate) → is_candidate a b ≡ true → a ≡ b
@@ -78,7 +82,7 @@ module _ (w : RingView) (schedule : IsSchedule all_fresh w.size w.capacity w.eve
     p = process all_fresh w.size w.capacity w.events b
 
     packet_releasable : (packet : Packet) → PacketRests b (take p.state.durable p.state.inputs) packet → IsReleasable b w.size w.capacity p (Sent packet)
-    unfolding IsReleasable Rests
+    unfolding scheduled.IsReleasable Rests
     packet_releasable packet rests = record { number = p.state.durable; durable = omega arith; rests = rests }
 
     pub packet_stays : (packet : Packet) → PacketRests b (take p.state.durable p.state.inputs) packet → Stays w.size w.capacity w.events ((b, Release (Sent packet)) ∷ [])

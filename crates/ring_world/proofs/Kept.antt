@@ -10,7 +10,7 @@ use Rattle.ring_records.specs.Place.{before}
 use Rattle.ring_node.specs.declared.flight.Flight.{Flight}
 use Rattle.ring_node.specs.declared.flight.Flight.TheVariants as flights
 use Rattle.ring_world.specs.Counts.{IsBounded}
-use Rattle.ring_world.specs.Events.{IsSchedule}
+use Rattle.ring_world.specs.Schedule.{IsSchedule}
 use Rattle.ring_world.specs.Rest.{IsAllDurable}
 use Rattle.ring_world.specs.Ring.{RingView, IsSameRing, node_at, is_launched, carried, round, brought, crashed, stopped, swept}
 use Rattle.ring_world.specs.Start.{all_fresh}
@@ -21,7 +21,7 @@ use Rattle.ring_world.specs.Step as step
 use Rattle.ring_world.specs.declared.event.Event.{Event}
 use Rattle.ring_world.specs.declared.event.Event.TheVariants.{Submit, Flush, Deliver, DeliverAll, Credit, Crash, Stop, Checkpoint, StopCheckpoint}
 use Rattle.ring_world.proofs.Counts.{bounded_brought, bounded_round, bounded_crashed, bounded_stopped, bounded_swept, bounded_told, bounded_new, few_lost}
-use Rattle.ring_world.proofs.Processes.{fresh-formatted}
+use Rattle.ring_world.proofs.Lawful.{fresh-formatted}
 use Rattle.ring_world.proofs.Rest.{durable_brought, durable_round, durable_crashed, durable_stopped, durable_swept, durable_told, durable_new, same_brought, same_round, same_swept}
 
 pub record Keeps (s : State) (r : Told × State) : Type 0 where

@@ -1,9 +1,11 @@
 mod Chain
+mod Corollaries
 mod Counts
 mod Credits
 mod Handed
 mod Histories
 mod Kept
+mod Lawful
 mod Lowest
 mod Moves
 mod Named
@@ -18,6 +20,7 @@ mod Rounds
 mod Runs
 mod Same
 mod Schedules
+mod Served
 mod Steps
 mod Sweeps
 mod Tickets

@@ -9,10 +9,14 @@ use Rattle.ring_node.specs.declared.flight.Flight.{Flight}
 use Rattle.ring_node.specs.declared.flight.Flight.TheVariants.{Batch, Checkpoint}
 use Rattle.ring_node.specs.Node.{launched_as}
 use Rattle.ring_node.specs.Open.{Open}
-use Rattle.ring_world.specs.Events.{Thing, Replied, Action, Land, Release, Crash, Process, started, act, process, IsReleasable, May, MayHappen, IsSchedule}
+use Rattle.ring_world.specs.Events.{Thing, Replied, Action, Land, Release, Crash, Process, started}
+use Rattle.ring_world.specs.Capacity.{act, process}
+use Rattle.ring_world.specs.Schedule.{IsReleasable, May, MayHappen, IsSchedule}
 use Rattle.ring_world.specs.Ring.{launch, release_of}
 use Rattle.ring_world.specs.Start.{all_fresh}
-use Rattle.ring_world.proofs.Schedules.{process-same, process-other}
+use Rattle.ring_world.specs.Events as happening
+use Rattle.ring_world.specs.Schedules as scheduled
+use Rattle.ring_world.proofs.Served.{process-same, process-other}
 
 -- the events may happen after those before, and change no node but i
 pub record Grows (n capacity : ℕ) (events more : List (ℕ × Action)) (i : ℕ) : Type 0 where
@@ -58,30 +62,30 @@ module _ (n capacity : ℕ) (events : List (ℕ × Action)) (i : ℕ) (a b : Act
 -- ---- what is launched
 
 pub act_launch : (flight : Flight) (i n capacity : ℕ) (p : Process) → act i n capacity p (launch flight) ≡ record p { state = launched_as flight i p.state }
-unfolding act
+unfolding happening.act
 act_launch Batch i n capacity p = refl
 act_launch Checkpoint i n capacity p = refl
 
 pub may_launch : (flight : Flight) (n capacity : ℕ) (events : List (ℕ × Action)) (i : ℕ) (p : Process) → is_idle p.state ≡ true → May n capacity events i p (launch flight)
-unfolding May
+unfolding scheduled.May
 may_launch Batch n capacity events i p idle = idle
 may_launch Checkpoint n capacity events i p idle = (idle, record { least = omega arith; most = omega arith })
 
 module _ (n capacity : ℕ) (events : List (ℕ × Action)) (i : ℕ) (flight : Flight) where
   pub process_landed : process all_fresh n capacity (events ++ (i, launch flight) ∷ (i, Land) ∷ []) i ≡ record (process all_fresh n capacity events i) { state = landed (launched_as flight i (process all_fresh n capacity events i).state) }
-  unfolding act
+  unfolding happening.act
   process_landed = process_two n capacity events i (launch flight) Land ∙ ap (λ p. act i n capacity p Land) (act_launch flight i n capacity (process all_fresh n capacity events i))
 
   pub process_left : (keeps_flying : Bool)
       → process all_fresh n capacity (events ++ (i, launch flight) ∷ (i, Crash keeps_flying) ∷ []) i ≡ started (left_by keeps_flying (launched_as flight i (process all_fresh n capacity events i).state))
-  unfolding act
+  unfolding happening.act
   process_left keeps_flying = process_two n capacity events i (launch flight) (Crash keeps_flying) ∙ ap (λ p. act i n capacity p (Crash keeps_flying)) (act_launch flight i n capacity (process all_fresh n capacity events i))
 
 -- ---- releases
 
 -- a release changes no node
 pub process-release : (n capacity : ℕ) (events : List (ℕ × Action)) (i : ℕ) (t : Thing) (k : ℕ) → process all_fresh n capacity (events ++ (i, Release t) ∷ []) k ≡ process all_fresh n capacity events k
-unfolding act
+unfolding happening.act
 process-release n capacity events i t k = elim (cases_eq i k) [
   | inl e ↦ subst (λ j. process all_fresh n capacity (events ++ (i, Release t) ∷ []) j ≡ process all_fresh n capacity events j) e (process-same all_fresh n capacity events i (Release t))
   | inr ne ↦ process-other all_fresh n capacity events i (Release t) k ne
@@ -96,7 +100,7 @@ process-releases n capacity i (t ∷ ts) events k =
 
 pub release_one : (n capacity : ℕ) (events : List (ℕ × Action)) (i : ℕ) (t : Thing) → IsSchedule all_fresh n capacity events → 1 ≤ i → i ≤ n → IsReleasable i n capacity (process all_fresh n capacity events i) t
     → Stays n capacity events ((i, Release t) ∷ [])
-unfolding May
+unfolding scheduled.May
 release_one n capacity events i t schedule first last may = record {
   schedule = (grows_one n capacity events i (Release t) schedule (record { first = first; last = last; may = may })).schedule;
   same = λ k. process-release n capacity events i t k;

@@ -7,19 +7,25 @@ use Rattle.std.proofs.lemmas.List.{length-append, length-set, get_or-set_same, g
 use Rattle.std.proofs.lemmas.List.Elements.{Contains-push, Contains-push_cases, Contains-append_left}
 use Rattle.ring_records.specs.declared.request.Request.{Request}
 use Rattle.ring_records.specs.Member.{member}
-use Rattle.ring_records.specs.States.{NodeState, is_idle, answered_by, opened, asked, landed, left_by}
+use Rattle.ring_records.specs.States.{NodeState, is_idle, opened, landed, left_by}
+use Rattle.ring_records.specs.Serving.{answered_by, asked}
 use Rattle.ring_records.proofs.Leader.{Contains-nil}
 use Rattle.ring_node.specs.declared.flight.Flight.{Flight}
 use Rattle.ring_node.specs.declared.flight.Flight.TheVariants.{Batch, Checkpoint}
 use Rattle.ring_node.specs.Node.{NodeView, new_node, state_of, durable_in, ticket_of, asked_with, launched_as, flying, made_durable, left, reopened}
 use Rattle.ring_node.specs.Open.{Open, due, is_due}
 use Rattle.ring_node.proofs.Flights.{durable_state}
-use Rattle.ring_world.specs.Events.{Replied, Action, Submit, Land, Crash, Process, started, act, process, IsDelivered, IsReleasable, May, MayHappen}
+use Rattle.ring_world.specs.Events.{Replied, Action, Submit, Land, Crash, Process, started}
+use Rattle.ring_world.specs.Capacity.{act, process}
+use Rattle.ring_world.specs.Schedule.{IsReleasable, May, MayHappen}
+use Rattle.ring_world.specs.Schedules.{IsDelivered}
 use Rattle.ring_world.specs.Ring.{is_launched, launch, release_of}
 use Rattle.ring_world.specs.Shows.{ShowsNode, Shows, without_due}
 use Rattle.ring_world.specs.Start.{all_fresh}
+use Rattle.ring_world.specs.Events as happening
+use Rattle.ring_world.specs.Schedules as scheduled
 use Rattle.ring_world.proofs.Moves.{Grows, Stays, grows_one, grows_two, act_launch, may_launch, process_landed, process_left, release_all}
-use Rattle.ring_world.proofs.Schedules.{process-same}
+use Rattle.ring_world.proofs.Served.{process-same}
 use Rattle.ring_world.proofs.Tickets.{from_filter}
 
 with_false : (b : Bool) → (b && false) ≡ false
@@ -85,7 +91,7 @@ module _ (n capacity : ℕ) (events : List (ℕ × Action)) (nodes : List NodeVi
     answered_same q t = answered_by (mine.is t) (mine.state t) q
 
     asked_here : (serial : Option ℕ) (q : Request) → ShowsNode n capacity (events ++ submission q) i (asked_with serial q v)
-    unfolding asked_with act
+    unfolding asked_with happening.act
     asked_here serial q =
         let same = process-same all_fresh n capacity events i (Submit q) in
         record {
@@ -101,7 +107,7 @@ module _ (n capacity : ℕ) (events : List (ℕ × Action)) (nodes : List NodeVi
         }
 
     pub asked_shows : (serial : Option ℕ) (q : Request) → IsDelivered n events i q → Shows n capacity (events ++ submission q) (set nodes (i - 1) (asked_with serial q v))
-    unfolding May
+    unfolding scheduled.May
     asked_shows serial q delivered =
         moved (submission q) (grows_one n capacity events i (Submit q) shows.schedule (record { first = first; last = last; may = delivered })) (asked_with serial q v) (asked_here serial q)
 
@@ -129,7 +135,7 @@ module _ (n capacity : ℕ) (events : List (ℕ × Action)) (nodes : List NodeVi
         }
 
     pub landed_shows : (flight : Flight) → is_launched flight p.state ≡ true → Shows n capacity (events ++ flight_events flight Land) (set nodes (i - 1) (made_durable flight v))
-    unfolding May
+    unfolding scheduled.May
     landed_shows flight e =
         moved (flight_events flight Land)
         (grows_two n capacity events i (launch flight) Land shows.schedule (may_begin flight) (ap (λ (q : Process). is_idle q.state) (act_launch flight i n capacity p) ∙ may_land flight e)) (made_durable flight v) (landed_here flight)
@@ -140,7 +146,7 @@ module _ (n capacity : ℕ) (events : List (ℕ × Action)) (nodes : List NodeVi
     releases = map (release_of i) (due v.durable v.held)
 
     due_releasable : (t : Open) → Contains (due v.durable v.held) t → IsReleasable i n capacity p (Replied t.kept)
-    unfolding IsReleasable
+    unfolding scheduled.IsReleasable
     due_releasable t here =
         let from = from_filter (is_due v.durable) v.held t here in
         let low = leb-true t.kept.answer.number v.durable from.1 in
@@ -181,13 +187,13 @@ module _ (n capacity : ℕ) (events : List (ℕ × Action)) (nodes : List NodeVi
     crash = (i, Crash false) ∷ []
 
     pub crashed_shows : Shows n capacity (events ++ crash) (set nodes (i - 1) (reopened (opened v.base (durable_in v)) v))
-    unfolding May act
+    unfolding scheduled.May happening.act
     crashed_shows =
         moved crash (grows_one n capacity events i (Crash false) shows.schedule (record { first = first; last = last; may = tt })) (reopened (opened v.base (durable_in v)) v)
         (opened_again crash false (state_of v) (process-same all_fresh n capacity events i (Crash false) ∙ ap (λ (s : NodeState). started (left_by false s)) (sym mine.state)))
 
     pub stopped_shows : (flight : Flight) (keeps_flying : Bool) → Shows n capacity (events ++ flight_events flight (Crash keeps_flying)) (set nodes (i - 1) (reopened (left flight keeps_flying v) v))
-    unfolding May
+    unfolding scheduled.May
     stopped_shows flight keeps_flying =
         moved (flight_events flight (Crash keeps_flying)) (grows_two n capacity events i (launch flight) (Crash keeps_flying) shows.schedule (may_begin flight) tt) (reopened (left flight keeps_flying v) v)
         (opened_again (flight_events flight (Crash keeps_flying)) keeps_flying (flying flight v)

@@ -13,10 +13,11 @@ use Rattle.ring_records.specs.Ring.{part}
 use Rattle.ring_records.proofs.Leader.{Contains-nil}
 use Rattle.gated_journal.specs.Reading.{is_header}
 use Rattle.ring_node.specs.Node.{NodeView, new_node}
-use Rattle.ring_world.specs.Events.{process}
+use Rattle.ring_world.specs.Capacity.{process}
 use Rattle.ring_world.specs.Shows.{ShowsNode, Shows, IsSound, IsSealed, held_of, new_nodes}
 use Rattle.ring_world.specs.State.{is_ring}
-use Rattle.ring_world.proofs.Processes.{fresh-formatted}
+use Rattle.ring_world.specs.Events as happening
+use Rattle.ring_world.proofs.Lawful.{fresh-formatted}
 
 pub header_fits : (k size capacity : ℕ) → is_ring size capacity ≡ true → k ≤ size → is_header (member k size capacity) ≡ true
 header_fits k size capacity ring inside = grind (arith, nat_tests)
@@ -58,7 +59,7 @@ new_node_at size capacity (suc k) at other lt =
     ]
 
 fresh_node : (size capacity at : ℕ) → ShowsNode size capacity [] (at + 1) (new_node (at + 1) size capacity)
-unfolding process part
+unfolding happening.process part
 fresh_node size capacity at = record {
   is = refl;
   state = refl;

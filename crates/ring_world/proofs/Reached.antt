@@ -3,13 +3,16 @@ use Rattle.std.proofs.Common.{ℕ, ◌≡◌, true, false, cond, [], ◌∷◌, 
 use Rattle.ring_records.specs.declared.request.Request.{Request}
 use Rattle.ring_records.specs.declared.request.Request.TheVariants as ask
 use Rattle.ring_records.specs.Member.{member}
-use Rattle.ring_records.specs.States.{asked as asked_state, launched, landed as landed_state}
+use Rattle.ring_records.specs.States.{launched, landed as landed_state}
+use Rattle.ring_records.specs.Serving.{asked as asked_state}
 use Rattle.ring_node.specs.declared.flight.Flight.TheVariants.{Batch}
-use Rattle.ring_world.specs.Events.{Submit, Launch, Land, Process, act}
+use Rattle.ring_world.specs.Events.{Submit, Launch, Land, Process}
+use Rattle.ring_world.specs.Capacity.{act}
 use Rattle.ring_world.specs.Ring.{RingView, node_at, asked, landed, waits, settled, due_at, given}
 use Rattle.ring_world.specs.Start.{all_fresh}
+use Rattle.ring_world.specs.Events as happening
 use Rattle.ring_world.proofs.Moves.{process_two, process_two-other, process-release, process-releases}
-use Rattle.ring_world.proofs.Schedules.{process-same, process-other}
+use Rattle.ring_world.proofs.Served.{process-same, process-other}
 
 module _ (w : RingView) (i : ℕ) where
   -- a packet that is handed over changes no node
@@ -28,7 +31,7 @@ module _ (w : RingView) (i : ℕ) where
   node_settled j = ap (λ (p : Process). p.state) (process-releases w.size w.capacity i (due_at w i) w.events j)
 
   pub node_asked : (serial : Option ℕ) (q : Request) → node_at (asked serial i q w) i ≡ asked_state (member i w.size w.capacity) (node_at w i) q
-  unfolding asked act
+  unfolding asked happening.act
   node_asked serial q = ap (λ (p : Process). p.state) (process-same all_fresh w.size w.capacity w.events i (Submit q))
 
   pub asked-other : (serial : Option ℕ) (q : Request) (j : ℕ) → (i ≡ j → ⊥) → node_at (asked serial i q w) j ≡ node_at w j
@@ -37,7 +40,7 @@ module _ (w : RingView) (i : ℕ) where
 
   -- where something waits, a batch of node i lands
   pub node_landed : waits w i ≡ true → node_at (landed Batch i w) i ≡ landed_state (launched (node_at w i))
-  unfolding landed act
+  unfolding landed happening.act
   node_landed e = ap (λ b. node_at (record w { events = w.events ++ cond b ((i, Launch) ∷ (i, Land) ∷ []) [] }) i) e ∙ ap (λ (p : Process). p.state) (process_two w.size w.capacity w.events i Launch Land)
 
   pub landed-other : waits w i ≡ true → (j : ℕ) → (i ≡ j → ⊥) → node_at (landed Batch i w) j ≡ node_at w j

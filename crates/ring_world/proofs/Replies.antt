@@ -13,7 +13,7 @@ use Rattle.ring_records.specs.Emission.{is_below, emit, sent}
 use Rattle.ring_records.specs.History.{is_retired, is_named, bid_for, first_stand, message_of, taken}
 use Rattle.ring_records.specs.Leader.{makes_leader, first_leader}
 use Rattle.ring_records.specs.Message.{key_of}
-use Rattle.ring_records.specs.Admission.{IsAllowed}
+use Rattle.ring_records.specs.Allowed.{IsAllowed}
 use Rattle.ring_records.proofs.FloorsRise.{floor-rises, live-before}
 use Rattle.ring_records.proofs.Inputs.{bid_for-message, bid_for-some}
 use Rattle.ring_records.proofs.Lists.{along, none≢some, Contains-option_kept, Contains-option_new}

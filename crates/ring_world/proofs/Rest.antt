@@ -7,19 +7,24 @@ use Rattle.ring_records.specs.declared.input.Input.{Input}
 use Rattle.ring_records.specs.declared.refusal.Refusal.{Refusal}
 use Rattle.ring_records.specs.declared.request.Request.{Request}
 use Rattle.ring_records.specs.Admission.{newest, refusal}
-use Rattle.ring_records.specs.Answer.{input_of, gained, if_free, if_input}
+use Rattle.ring_records.specs.Answer.{input_of, if_free}
+use Rattle.ring_records.specs.Answering.{gained, if_input}
+use Rattle.ring_records.specs.Answer as by_rule
 use Rattle.ring_records.specs.Member.{member}
 use Rattle.ring_records.specs.Ring.{part}
-use Rattle.ring_records.specs.States.{NodeState, gained_by, left_by, launched_base}
+use Rattle.ring_records.specs.States.{NodeState, left_by, launched_base}
+use Rattle.ring_records.specs.Serving.{gained_by}
 use Rattle.ring_node.specs.declared.flight.Flight.{Flight}
 use Rattle.ring_node.specs.declared.flight.Flight.TheVariants.{Batch, Checkpoint}
-use Rattle.ring_world.specs.Events.{Action, LaunchAll, Land, Crash, Process, act, process, state_after}
+use Rattle.ring_world.specs.Events.{Action, LaunchAll, Land, Crash, Process}
+use Rattle.ring_world.specs.Capacity.{act, process, state_after}
 use Rattle.ring_world.specs.Rest.{IsAllDurable}
 use Rattle.ring_world.specs.Ring.{RingView, IsSameRing, Part, node_at, asked, launch, landed, waits, settled, released, and_then, round, rounds, drained, crashed, stopped, given, brought, swept, swept_with, swept_on, swept_one, next_delivery, new_ring}
 use Rattle.ring_world.specs.Start.{all_fresh}
+use Rattle.ring_world.specs.Events as happening
 use Rattle.ring_world.proofs.Moves.{process_two, process_two-other}
 use Rattle.ring_world.proofs.Reached.{node_given, node_settled, node_asked, asked-other, node_landed, landed-other, landed_idle}
-use Rattle.ring_world.proofs.Schedules.{process-same, process-other}
+use Rattle.ring_world.proofs.Served.{process-same, process-other}
 
 -- no input of the node waits
 abbrev IsStill : NodeState → Type 0
@@ -41,7 +46,7 @@ one_if_input me n capacity base h (Some x) = one_if_free (refusal me n capacity 
 
 -- a request adds at most one input
 one_gained : (me n capacity : ℕ) (s : NodeState) (q : Request) → length (gained_by (member me n capacity) s q) ≤ 1
-unfolding gained
+unfolding by_rule.gained
 one_gained me n capacity s q = one_if_input me n capacity (launched_base s) s.inputs (input_of q)
 
 -- ---- rounds
@@ -150,7 +155,7 @@ module _ (n capacity : ℕ) (events : List (ℕ × Action)) (i : ℕ) (all : (j 
   ]
 
 pub durable_crashed : (i : ℕ) (w : RingView) → IsAllDurable w → IsAllDurable (crashed i w)
-unfolding crashed act IsAllDurable
+unfolding crashed happening.act IsAllDurable
 durable_crashed i w all = still_one w.size w.capacity w.events i all (Crash false) refl
 
 -- no stop leaves an input that waits
@@ -159,12 +164,12 @@ still_left true s = refl
 still_left false s = refl
 
 pub durable_stopped : (flight : Flight) (keeps_flying : Bool) (i : ℕ) (w : RingView) → IsAllDurable w → IsAllDurable (stopped flight keeps_flying i w)
-unfolding stopped act IsAllDurable
+unfolding stopped happening.act IsAllDurable
 durable_stopped flight keeps_flying i w all = still_two w.size w.capacity w.events i all (launch flight) (Crash keeps_flying) (still_left keeps_flying (act i w.size w.capacity (process all_fresh w.size w.capacity w.events i) (launch flight)).state)
 
 -- nor does a round
 durable_landed : (flight : Flight) (i : ℕ) (w : RingView) → IsAllDurable w → IsAllDurable (landed flight i w)
-unfolding landed act IsAllDurable
+unfolding landed happening.act IsAllDurable
 durable_landed Batch i w all = by_waiting (waits w i) refl
   where
     by_waiting : (b : Bool) → waits w i ≡ b → IsAllDurable (landed Batch i w)
@@ -181,7 +186,7 @@ unfolding IsAllDurable
 durable_told w all = λ i. all i
 
 pub durable_new : (size : ℕ) (eager : Bool) (capacity : ℕ) → IsAllDurable (new_ring size eager capacity)
-unfolding IsAllDurable process part
+unfolding IsAllDurable happening.process part
 durable_new size eager capacity = λ i. refl
 
 -- ---- its size, its capacity and that it is eager stay

@@ -16,14 +16,15 @@ use Rattle.ring_node.specs.Held.{MayBegin, MayStop}
 use Rattle.ring_node.specs.Node.{NodeView, new_node, state_of, durable_in, asked_with, made_durable, left, reopened, is_credited}
 use Rattle.ring_node.specs.Refusals.{checkpoint_refusal}
 use Rattle.ring_node.specs.Open.{Open, due, sealed}
-use Rattle.ring_world.specs.Events.{Action, Submit, Land, Crash, IsDelivered}
+use Rattle.ring_world.specs.Events.{Action, Submit, Land, Crash}
+use Rattle.ring_world.specs.Schedules.{IsDelivered}
 use Rattle.ring_world.specs.Ring.{RingView, node_at, held_at, is_launched, launch, landing, landed, asked, due_at, release_of, settled, crashed, stopped, given, handed, is_released}
 use Rattle.ring_world.specs.Shows.{ShowsNode, Shows, IsSealed, held_of, without_due}
 use Rattle.ring_world.specs.Start.{all_fresh}
 use Rattle.ring_world.proofs.Credits.{credited}
 use Rattle.ring_world.proofs.Handed.{handed_stays}
 use Rattle.ring_world.proofs.Nodes.{resting, mine, answered_same, asked_shows, landed_shows, settled_shows, crashed_shows, stopped_shows}
-use Rattle.ring_world.proofs.Schedules.{schedule_holds}
+use Rattle.ring_world.proofs.Served.{schedule_holds}
 use Rattle.ring_world.proofs.Tickets.{one_due, few_due}
 
 get_or-of : {A B : Type 0} (f : A → B) (l : List A) (k : ℕ) (d : A) → get_or (map f l) k (f d) ≡ f (get_or l k d)

@@ -4,8 +4,11 @@ use Rattle.std.specs.Prelude.{nat_eq, if◌then◌else◌}
 use Rattle.ring_records.specs.declared.base.Base.{Base}
 use Rattle.ring_records.specs.declared.reply.Reply.TheVariants as say
 use Rattle.ring_records.specs.declared.request.Request.TheVariants as ask
-use Rattle.ring_records.specs.Admission.{fresh, cost, used, retired, is_retire, already, is_touched, stale, out_of_turn, too_many, no_room, objection, shortage, refusal, snapshot_len, newest}
-use Rattle.ring_records.specs.Answer.{input_of, gained, reply}
+use Rattle.ring_records.specs.Admission.{fresh, cost, used, is_retire, no_room, shortage, refusal, snapshot_len, newest}
+use Rattle.ring_records.specs.Allowed.{retired, already, is_touched, stale, out_of_turn, too_many, objection}
+use Rattle.ring_records.specs.Answer.{input_of}
+use Rattle.ring_records.specs.Answering.{gained, reply}
+use Rattle.ring_records.specs.Answer as by_rule
 use Rattle.ring_records.specs.Emission.{is_below, passed_on, emit, sent}
 use Rattle.ring_records.specs.History.{floor_for, floor, is_retired, names, is_named, touched, bid_for, first_stand, stood, message_of, taken, upto_of, credit, is_live_stand, stands}
 use Rattle.ring_records.specs.Leader.{is_bid, makes_leader, first_leader, leader, with_term, term_led, greater_term, latest}
@@ -20,15 +23,21 @@ use Rattle.ring_records.proofs.Snapshots.{length-empty}
 use Rattle.ring_audit.specs.Placement.{IsWhole}
 use Rattle.ring_node.specs.declared.flight.Flight.{Flight}
 use Rattle.ring_node.specs.declared.flight.Flight.TheVariants.{Batch, Checkpoint}
-use Rattle.ring_world.specs.Committed.{made_durable, committed_by, committed}
-use Rattle.ring_world.specs.Events.{Action, Replied, Shown, Rests, act, process, state_after, IsDelivered, IsReleasable, May, MayHappen, IsSchedule}
+use Rattle.ring_world.specs.Committed.{made_durable, committed_by}
+use Rattle.ring_world.specs.Capacity.{committed, act, process, state_after}
+use Rattle.ring_world.specs.Events.{Action, Replied, Shown}
+use Rattle.ring_world.specs.Schedule.{IsReleasable, May, MayHappen, IsSchedule}
+use Rattle.ring_world.specs.Schedules.{Rests, IsDelivered}
 use Rattle.ring_world.specs.Histories.{histories}
 use Rattle.ring_world.specs.Released.{named_by, named, IsAnnounced}
 use Rattle.ring_world.specs.Ring.{launch}
 use Rattle.ring_world.specs.Start.{IsFormatted, all_fresh}
 use Rattle.ring_world.specs.WorkedSchedule.{election_events, alone, crash_events, crash_run, retire_events, three_layouts, layout_events, layout_run}
+use Rattle.ring_world.specs.Events as happening
+use Rattle.ring_world.specs.Schedules as scheduled
+use Rattle.ring_world.specs.Committed as ended
 use Rattle.ring_world.proofs.Histories.{whole_histories}
-use Rattle.ring_world.proofs.Processes.{fresh-formatted}
+use Rattle.ring_world.proofs.Lawful.{fresh-formatted}
 
 -- ---- from bases whose bytes are numbers
 
@@ -71,14 +80,14 @@ layout_formatted i = among (nat_eq i 1) (nat_eq i 2)
 -- ---- the schedules
 
 election_durable : committed all_counted 3 65536 election_events ≡ first_election
-unfolding counted all_counted process committed committed_by made_durable before after act part item_at found_after first joined_after gained input_of reply refusal objection shortage no_room is_touched already stale out_of_turn too_many latest term_led with_term greater_term used cost retired is_retire floor_for floor is_retired names is_named touched bid_for first_stand stood message_of taken upto_of credit is_live_stand stands is_below is_less is_key is_bid makes_leader first_leader leader passed_on emit sent
+unfolding counted all_counted happening.process ended.committed committed_by made_durable before after happening.act part item_at found_after first joined_after by_rule.gained input_of by_rule.reply by_rule.refusal objection shortage no_room is_touched already stale out_of_turn too_many latest term_led with_term greater_term used cost retired is_retire floor_for floor is_retired names is_named touched bid_for first_stand stood message_of taken upto_of credit is_live_stand stands is_below is_less is_key is_bid makes_leader first_leader leader passed_on emit sent
 election_durable = refl
 
 pub election_committed : committed all_fresh 3 65536 election_events ≡ first_election
 election_committed = made 3 65536 election_events ∙ election_durable
 
 election_each : EachAfter (MayHappen all_counted 3 65536) [] election_events
-unfolding counted all_counted process EachAfter May IsDelivered IsReleasable Rests before after act part item_at found_after first joined_after gained input_of reply refusal objection shortage no_room is_touched already stale out_of_turn too_many latest term_led with_term greater_term used cost retired is_retire floor_for floor is_retired names is_named touched bid_for first_stand stood message_of taken upto_of credit is_live_stand stands is_below is_less is_key is_bid makes_leader first_leader leader passed_on emit sent
+unfolding counted all_counted happening.process EachAfter scheduled.May IsDelivered scheduled.IsReleasable Rests before after happening.act part item_at found_after first joined_after by_rule.gained input_of by_rule.reply by_rule.refusal objection shortage no_room is_touched already stale out_of_turn too_many latest term_led with_term greater_term used cost retired is_retire floor_for floor is_retired names is_named touched bid_for first_stand stood message_of taken upto_of credit is_live_stand stands is_below is_less is_key is_bid makes_leader first_leader leader passed_on emit sent
 election_each =
     (record { first = lit≤ tt; last = lit≤ tt; may = tt }, (record { first = lit≤ tt; last = lit≤ tt; may = refl }, (record { first = lit≤ tt; last = lit≤ tt; may = refl }, (record { first = lit≤ tt; last = lit≤ tt; may = ((0, lit< tt, refl), lit≤ tt) }, (record { first = lit≤ tt; last = lit≤ tt; may = tt }, (record { first = lit≤ tt; last = lit≤ tt; may = refl }, (record { first = lit≤ tt; last = lit≤ tt; may = refl }, (record { first = lit≤ tt; last = lit≤ tt; may = ((0, lit< tt, refl), lit≤ tt) }, (record { first = lit≤ tt; last = lit≤ tt; may = tt }, (record { first = lit≤ tt; last = lit≤ tt; may = refl }, (record { first = lit≤ tt; last = lit≤ tt; may = refl }, (record { first = lit≤ tt; last = lit≤ tt; may = ((0, lit< tt, refl), lit≤ tt) }, (record { first = lit≤ tt; last = lit≤ tt; may = record { number = 1; durable = lit≤ tt; rests = refl } }, (record { first = lit≤ tt; last = lit≤ tt; may = (12, lit< tt, refl) }, (record { first = lit≤ tt; last = lit≤ tt; may = refl }, (record { first = lit≤ tt; last = lit≤ tt; may = refl }, (record { first = lit≤ tt; last = lit≤ tt; may = ((1, lit< tt, refl), lit≤ tt) }, (record { first = lit≤ tt; last = lit≤ tt; may = record { number = 1; durable = lit≤ tt; rests = refl } }, (record { first = lit≤ tt; last = lit≤ tt; may = (17, lit< tt, refl) }, (record { first = lit≤ tt; last = lit≤ tt; may = refl }, (record { first = lit≤ tt; last = lit≤ tt; may = refl }, (record { first = lit≤ tt; last = lit≤ tt; may = ((1, lit< tt, refl), lit≤ tt) }, (record { first = lit≤ tt; last = lit≤ tt; may = record { number = 1; durable = lit≤ tt; rests = refl } }, (record { first = lit≤ tt; last = lit≤ tt; may = (22, lit< tt, refl) }, (record { first = lit≤ tt; last = lit≤ tt; may = refl }, (record { first = lit≤ tt; last = lit≤ tt; may = refl }, (record { first = lit≤ tt; last = lit≤ tt; may = ((1, lit< tt, refl), lit≤ tt) }, (record { first = lit≤ tt; last = lit≤ tt; may = record { number = 2; durable = lit≤ tt; rests = refl } }, (record { first = lit≤ tt; last = lit≤ tt; may = (27, lit< tt, refl) }, (record { first = lit≤ tt; last = lit≤ tt; may = refl }, (record { first = lit≤ tt; last = lit≤ tt; may = refl }, (record { first = lit≤ tt; last = lit≤ tt; may = ((2, lit< tt, refl), lit≤ tt) }, (record { first = lit≤ tt; last = lit≤ tt; may = record { number = 2; durable = lit≤ tt; rests = refl } }, (record { first = lit≤ tt; last = lit≤ tt; may = (32, lit< tt, refl) }, (record { first = lit≤ tt; last = lit≤ tt; may = refl }, (record { first = lit≤ tt; last = lit≤ tt; may = refl }, (record { first = lit≤ tt; last = lit≤ tt; may = ((2, lit< tt, refl), lit≤ tt) }, (record { first = lit≤ tt; last = lit≤ tt; may = record { number = 3; durable = lit≤ tt; rests = refl } }, (record { first = lit≤ tt; last = lit≤ tt; may = (37, lit< tt, refl) }, (record { first = lit≤ tt; last = lit≤ tt; may = refl }, (record { first = lit≤ tt; last = lit≤ tt; may = refl }, (record { first = lit≤ tt; last = lit≤ tt; may = ((3, lit< tt, refl), lit≤ tt) }, (record { first = lit≤ tt; last = lit≤ tt; may = record { number = 4; durable = lit≤ tt; rests = refl } }, (record { first = lit≤ tt; last = lit≤ tt; may = (42, lit< tt, refl) }, (record { first = lit≤ tt; last = lit≤ tt; may = refl }, (record { first = lit≤ tt; last = lit≤ tt; may = refl }, (record { first = lit≤ tt; last = lit≤ tt; may = ((2, lit< tt, refl), lit≤ tt) }, (record { first = lit≤ tt; last = lit≤ tt; may = record { number = 3; durable = lit≤ tt; rests = refl } }, (record { first = lit≤ tt; last = lit≤ tt; may = (47, lit< tt, refl) }, (record { first = lit≤ tt; last = lit≤ tt; may = refl }, (record { first = lit≤ tt; last = lit≤ tt; may = refl }, (record { first = lit≤ tt; last = lit≤ tt; may = ((3, lit< tt, refl), lit≤ tt) }, (record { first = lit≤ tt; last = lit≤ tt; may = record { number = 4; durable = lit≤ tt; rests = refl } }, (record { first = lit≤ tt; last = lit≤ tt; may = (52, lit< tt, refl) }, (record { first = lit≤ tt; last = lit≤ tt; may = refl }, (record { first = lit≤ tt; last = lit≤ tt; may = refl }, (record { first = lit≤ tt; last = lit≤ tt; may = ((4, lit< tt, refl), lit≤ tt) }, (record { first = lit≤ tt; last = lit≤ tt; may = tt }, (record { first = lit≤ tt; last = lit≤ tt; may = ((4, lit< tt, refl), lit≤ tt) }, (record { first = lit≤ tt; last = lit≤ tt; may = tt }, (record { first = lit≤ tt; last = lit≤ tt; may = ((5, lit< tt, refl), lit≤ tt) }, (record { first = lit≤ tt; last = lit≤ tt; may = tt }, (record { first = lit≤ tt; last = lit≤ tt; may = ((3, lit< tt, refl), lit≤ tt) }, (record { first = lit≤ tt; last = lit≤ tt; may = record { number = 3; durable = lit≤ tt; rests = refl } }, tt))))))))))))))))))))))))))))))))))))))))))))))))))))))))))))))))
 
@@ -91,7 +100,7 @@ election_announced = record { node = 3; thing = Shown red_5 winner; released = (
 
 -- with batches, and with checkpoints
 crash_durable : (flight : Flight) → committed all_counted 2 4096 (crash_events (launch flight)) ≡ crash_run
-unfolding counted all_counted process committed committed_by made_durable before after act part item_at found_after first joined_after gained input_of reply refusal objection shortage no_room is_touched already stale out_of_turn too_many latest term_led with_term greater_term used cost retired is_retire floor_for floor is_retired names is_named touched bid_for first_stand stood message_of taken upto_of credit is_live_stand stands is_below is_less is_key is_bid makes_leader first_leader leader passed_on emit sent
+unfolding counted all_counted happening.process ended.committed committed_by made_durable before after happening.act part item_at found_after first joined_after by_rule.gained input_of by_rule.reply by_rule.refusal objection shortage no_room is_touched already stale out_of_turn too_many latest term_led with_term greater_term used cost retired is_retire floor_for floor is_retired names is_named touched bid_for first_stand stood message_of taken upto_of credit is_live_stand stands is_below is_less is_key is_bid makes_leader first_leader leader passed_on emit sent
 crash_durable Batch = refl
 crash_durable Checkpoint = refl
 
@@ -99,7 +108,7 @@ pub crash_committed : (flight : Flight) → committed all_fresh 2 4096 (crash_ev
 crash_committed flight = made 2 4096 (crash_events (launch flight)) ∙ crash_durable flight
 
 crash_each : (flight : Flight) → EachAfter (MayHappen all_counted 2 4096) [] (crash_events (launch flight))
-unfolding counted all_counted process EachAfter May IsDelivered IsReleasable Rests before after act part item_at found_after first joined_after gained input_of reply refusal objection shortage no_room is_touched already stale out_of_turn too_many latest term_led with_term greater_term used cost retired is_retire floor_for floor is_retired names is_named touched bid_for first_stand stood message_of taken upto_of credit is_live_stand stands is_below is_less is_key is_bid makes_leader first_leader leader passed_on emit sent
+unfolding counted all_counted happening.process EachAfter scheduled.May IsDelivered scheduled.IsReleasable Rests before after happening.act part item_at found_after first joined_after by_rule.gained input_of by_rule.reply by_rule.refusal objection shortage no_room is_touched already stale out_of_turn too_many latest term_led with_term greater_term used cost retired is_retire floor_for floor is_retired names is_named touched bid_for first_stand stood message_of taken upto_of credit is_live_stand stands is_below is_less is_key is_bid makes_leader first_leader leader passed_on emit sent
 crash_each Batch = (record { first = lit≤ tt; last = lit≤ tt; may = tt }, (record { first = lit≤ tt; last = lit≤ tt; may = refl }, (record { first = lit≤ tt; last = lit≤ tt; may = refl }, (record { first = lit≤ tt; last = lit≤ tt; may = ((0, lit< tt, refl), lit≤ tt) }, (record { first = lit≤ tt; last = lit≤ tt; may = record { number = 1; durable = lit≤ tt; rests = refl } }, (record { first = lit≤ tt; last = lit≤ tt; may = (4, lit< tt, refl) }, (record { first = lit≤ tt; last = lit≤ tt; may = refl }, (record { first = lit≤ tt; last = lit≤ tt; may = tt }, (record { first = lit≤ tt; last = lit≤ tt; may = (4, lit< tt, refl) }, (record { first = lit≤ tt; last = lit≤ tt; may = refl }, (record { first = lit≤ tt; last = lit≤ tt; may = tt }, (record { first = lit≤ tt; last = lit≤ tt; may = record { number = 1; durable = lit≤ tt; rests = refl } }, (record { first = lit≤ tt; last = lit≤ tt; may = (11, lit< tt, refl) }, (record { first = lit≤ tt; last = lit≤ tt; may = refl }, (record { first = lit≤ tt; last = lit≤ tt; may = refl }, (record { first = lit≤ tt; last = lit≤ tt; may = ((1, lit< tt, refl), lit≤ tt) }, (record { first = lit≤ tt; last = lit≤ tt; may = tt }, (record { first = lit≤ tt; last = lit≤ tt; may = ((2, lit< tt, refl), lit≤ tt) }, tt))))))))))))))))))
 crash_each Checkpoint = (record { first = lit≤ tt; last = lit≤ tt; may = tt }, (record { first = lit≤ tt; last = lit≤ tt; may = refl }, (record { first = lit≤ tt; last = lit≤ tt; may = refl }, (record { first = lit≤ tt; last = lit≤ tt; may = ((0, lit< tt, refl), lit≤ tt) }, (record { first = lit≤ tt; last = lit≤ tt; may = record { number = 1; durable = lit≤ tt; rests = refl } }, (record { first = lit≤ tt; last = lit≤ tt; may = (4, lit< tt, refl) }, (record { first = lit≤ tt; last = lit≤ tt; may = (refl, record { least = lit≤ tt; most = lit≤ tt }) }, (record { first = lit≤ tt; last = lit≤ tt; may = tt }, (record { first = lit≤ tt; last = lit≤ tt; may = (4, lit< tt, refl) }, (record { first = lit≤ tt; last = lit≤ tt; may = (refl, record { least = lit≤ tt; most = lit≤ tt }) }, (record { first = lit≤ tt; last = lit≤ tt; may = tt }, (record { first = lit≤ tt; last = lit≤ tt; may = record { number = 1; durable = lit≤ tt; rests = refl } }, (record { first = lit≤ tt; last = lit≤ tt; may = (11, lit< tt, refl) }, (record { first = lit≤ tt; last = lit≤ tt; may = refl }, (record { first = lit≤ tt; last = lit≤ tt; may = refl }, (record { first = lit≤ tt; last = lit≤ tt; may = ((1, lit< tt, refl), lit≤ tt) }, (record { first = lit≤ tt; last = lit≤ tt; may = tt }, (record { first = lit≤ tt; last = lit≤ tt; may = ((2, lit< tt, refl), lit≤ tt) }, tt))))))))))))))))))
 
@@ -112,14 +121,14 @@ crash_announced begin = record { node = 1; thing = Replied (record { question = 
 
 -- with a Retire
 retire_durable : committed all_counted 2 4096 retire_events ≡ retired_relay
-unfolding counted all_counted process committed committed_by made_durable before after act part item_at found_after first joined_after gained input_of reply refusal objection shortage no_room is_touched already stale out_of_turn too_many latest term_led with_term greater_term used cost retired is_retire floor_for floor is_retired names is_named touched bid_for first_stand stood message_of taken upto_of credit is_live_stand stands is_below is_less is_key is_bid makes_leader first_leader leader passed_on emit sent
+unfolding counted all_counted happening.process ended.committed committed_by made_durable before after happening.act part item_at found_after first joined_after by_rule.gained input_of by_rule.reply by_rule.refusal objection shortage no_room is_touched already stale out_of_turn too_many latest term_led with_term greater_term used cost retired is_retire floor_for floor is_retired names is_named touched bid_for first_stand stood message_of taken upto_of credit is_live_stand stands is_below is_less is_key is_bid makes_leader first_leader leader passed_on emit sent
 retire_durable = refl
 
 pub retire_committed : committed all_fresh 2 4096 retire_events ≡ retired_relay
 retire_committed = made 2 4096 retire_events ∙ retire_durable
 
 retire_each : EachAfter (MayHappen all_counted 2 4096) [] retire_events
-unfolding counted all_counted process EachAfter May IsDelivered IsReleasable Rests before after act part item_at found_after first joined_after gained input_of reply refusal objection shortage no_room is_touched already stale out_of_turn too_many latest term_led with_term greater_term used cost retired is_retire floor_for floor is_retired names is_named touched bid_for first_stand stood message_of taken upto_of credit is_live_stand stands is_below is_less is_key is_bid makes_leader first_leader leader passed_on emit sent
+unfolding counted all_counted happening.process EachAfter scheduled.May IsDelivered scheduled.IsReleasable Rests before after happening.act part item_at found_after first joined_after by_rule.gained input_of by_rule.reply by_rule.refusal objection shortage no_room is_touched already stale out_of_turn too_many latest term_led with_term greater_term used cost retired is_retire floor_for floor is_retired names is_named touched bid_for first_stand stood message_of taken upto_of credit is_live_stand stands is_below is_less is_key is_bid makes_leader first_leader leader passed_on emit sent
 retire_each = (record { first = lit≤ tt; last = lit≤ tt; may = tt }, (record { first = lit≤ tt; last = lit≤ tt; may = refl }, (record { first = lit≤ tt; last = lit≤ tt; may = refl }, (record { first = lit≤ tt; last = lit≤ tt; may = ((0, lit< tt, refl), lit≤ tt) }, (record { first = lit≤ tt; last = lit≤ tt; may = record { number = 1; durable = lit≤ tt; rests = refl } }, (record { first = lit≤ tt; last = lit≤ tt; may = (4, lit< tt, refl) }, (record { first = lit≤ tt; last = lit≤ tt; may = refl }, (record { first = lit≤ tt; last = lit≤ tt; may = refl }, (record { first = lit≤ tt; last = lit≤ tt; may = ((0, lit< tt, refl), lit≤ tt) }, (record { first = lit≤ tt; last = lit≤ tt; may = record { number = 1; durable = lit≤ tt; rests = refl } }, (record { first = lit≤ tt; last = lit≤ tt; may = (9, lit< tt, refl) }, (record { first = lit≤ tt; last = lit≤ tt; may = refl }, (record { first = lit≤ tt; last = lit≤ tt; may = refl }, (record { first = lit≤ tt; last = lit≤ tt; may = ((1, lit< tt, refl), lit≤ tt) }, (record { first = lit≤ tt; last = lit≤ tt; may = tt }, (record { first = lit≤ tt; last = lit≤ tt; may = refl }, (record { first = lit≤ tt; last = lit≤ tt; may = refl }, (record { first = lit≤ tt; last = lit≤ tt; may = ((2, lit< tt, refl), lit≤ tt) }, (record { first = lit≤ tt; last = lit≤ tt; may = tt }, (record { first = lit≤ tt; last = lit≤ tt; may = refl }, (record { first = lit≤ tt; last = lit≤ tt; may = refl }, (record { first = lit≤ tt; last = lit≤ tt; may = ((1, lit< tt, refl), lit≤ tt) }, (record { first = lit≤ tt; last = lit≤ tt; may = record { number = 2; durable = lit≤ tt; rests = refl } }, (record { first = lit≤ tt; last = lit≤ tt; may = (22, lit< tt, refl) }, (record { first = lit≤ tt; last = lit≤ tt; may = refl }, (record { first = lit≤ tt; last = lit≤ tt; may = refl }, (record { first = lit≤ tt; last = lit≤ tt; may = ((3, lit< tt, refl), lit≤ tt) }, (record { first = lit≤ tt; last = lit≤ tt; may = tt }, (record { first = lit≤ tt; last = lit≤ tt; may = ((4, lit< tt, refl), lit≤ tt) }, (record { first = lit≤ tt; last = lit≤ tt; may = tt }, (record { first = lit≤ tt; last = lit≤ tt; may = ((5, lit< tt, refl), lit≤ tt) }, tt)))))))))))))))))))))))))))))))
 
 pub retire_schedule : IsSchedule all_fresh 2 4096 retire_events
@@ -131,11 +140,11 @@ retire_announced = record { node = 1; thing = Replied (record { question = ask.W
 
 -- from three layouts
 pub layout_committed : committed three_layouts 3 4096 layout_events ≡ layout_run
-unfolding process committed committed_by made_durable before after act part item_at found_after first joined_after gained input_of reply refusal objection shortage no_room is_touched already stale out_of_turn too_many latest term_led with_term greater_term used cost retired is_retire floor_for floor is_retired names is_named touched bid_for first_stand stood message_of taken upto_of credit is_live_stand stands is_below is_less is_key is_bid makes_leader first_leader leader passed_on emit sent
+unfolding happening.process ended.committed committed_by made_durable before after happening.act part item_at found_after first joined_after by_rule.gained input_of by_rule.reply by_rule.refusal objection shortage no_room is_touched already stale out_of_turn too_many latest term_led with_term greater_term used cost retired is_retire floor_for floor is_retired names is_named touched bid_for first_stand stood message_of taken upto_of credit is_live_stand stands is_below is_less is_key is_bid makes_leader first_leader leader passed_on emit sent
 layout_committed = refl
 
 layout_each : EachAfter (MayHappen three_layouts 3 4096) [] layout_events
-unfolding process EachAfter May IsDelivered IsReleasable Rests before after act part item_at found_after first joined_after gained input_of reply refusal objection shortage no_room is_touched already stale out_of_turn too_many latest term_led with_term greater_term used cost retired is_retire floor_for floor is_retired names is_named touched bid_for first_stand stood message_of taken upto_of credit is_live_stand stands is_below is_less is_key is_bid makes_leader first_leader leader passed_on emit sent
+unfolding happening.process EachAfter scheduled.May IsDelivered scheduled.IsReleasable Rests before after happening.act part item_at found_after first joined_after by_rule.gained input_of by_rule.reply by_rule.refusal objection shortage no_room is_touched already stale out_of_turn too_many latest term_led with_term greater_term used cost retired is_retire floor_for floor is_retired names is_named touched bid_for first_stand stood message_of taken upto_of credit is_live_stand stands is_below is_less is_key is_bid makes_leader first_leader leader passed_on emit sent
 layout_each = (record { first = lit≤ tt; last = lit≤ tt; may = tt }, (record { first = lit≤ tt; last = lit≤ tt; may = refl }, (record { first = lit≤ tt; last = lit≤ tt; may = refl }, (record { first = lit≤ tt; last = lit≤ tt; may = ((0, lit< tt, refl), lit≤ tt) }, (record { first = lit≤ tt; last = lit≤ tt; may = record { number = 1; durable = lit≤ tt; rests = refl } }, (record { first = lit≤ tt; last = lit≤ tt; may = (4, lit< tt, refl) }, (record { first = lit≤ tt; last = lit≤ tt; may = refl }, (record { first = lit≤ tt; last = lit≤ tt; may = refl }, (record { first = lit≤ tt; last = lit≤ tt; may = ((0, lit< tt, refl), lit≤ tt) }, (record { first = lit≤ tt; last = lit≤ tt; may = record { number = 1; durable = lit≤ tt; rests = refl } }, (record { first = lit≤ tt; last = lit≤ tt; may = (9, lit< tt, refl) }, (record { first = lit≤ tt; last = lit≤ tt; may = refl }, (record { first = lit≤ tt; last = lit≤ tt; may = refl }, (record { first = lit≤ tt; last = lit≤ tt; may = ((0, lit< tt, refl), lit≤ tt) }, (record { first = lit≤ tt; last = lit≤ tt; may = record { number = 1; durable = lit≤ tt; rests = refl } }, (record { first = lit≤ tt; last = lit≤ tt; may = (14, lit< tt, refl) }, (record { first = lit≤ tt; last = lit≤ tt; may = refl }, (record { first = lit≤ tt; last = lit≤ tt; may = refl }, (record { first = lit≤ tt; last = lit≤ tt; may = ((1, lit< tt, refl), lit≤ tt) }, (record { first = lit≤ tt; last = lit≤ tt; may = record { number = 2; durable = lit≤ tt; rests = refl } }, (record { first = lit≤ tt; last = lit≤ tt; may = (19, lit< tt, refl) }, (record { first = lit≤ tt; last = lit≤ tt; may = refl }, (record { first = lit≤ tt; last = lit≤ tt; may = refl }, (record { first = lit≤ tt; last = lit≤ tt; may = ((1, lit< tt, refl), lit≤ tt) }, (record { first = lit≤ tt; last = lit≤ tt; may = record { number = 2; durable = lit≤ tt; rests = refl } }, (record { first = lit≤ tt; last = lit≤ tt; may = (24, lit< tt, refl) }, (record { first = lit≤ tt; last = lit≤ tt; may = refl }, (record { first = lit≤ tt; last = lit≤ tt; may = refl }, (record { first = lit≤ tt; last = lit≤ tt; may = ((1, lit< tt, refl), lit≤ tt) }, (record { first = lit≤ tt; last = lit≤ tt; may = record { number = 2; durable = lit≤ tt; rests = refl } }, (record { first = lit≤ tt; last = lit≤ tt; may = (29, lit< tt, refl) }, (record { first = lit≤ tt; last = lit≤ tt; may = (refl, record { least = lit≤ tt; most = lit≤ tt }) }, (record { first = lit≤ tt; last = lit≤ tt; may = tt }, (record { first = lit≤ tt; last = lit≤ tt; may = (29, lit< tt, refl) }, (record { first = lit≤ tt; last = lit≤ tt; may = (refl, record { least = lit≤ tt; most = lit≤ tt }) }, (record { first = lit≤ tt; last = lit≤ tt; may = tt }, (record { first = lit≤ tt; last = lit≤ tt; may = (refl, record { least = lit≤ tt; most = lit≤ tt }) }, (record { first = lit≤ tt; last = lit≤ tt; may = tt }, (record { first = lit≤ tt; last = lit≤ tt; may = tt }, (record { first = lit≤ tt; last = lit≤ tt; may = ((0, lit< tt, refl), lit≤ tt) }, (record { first = lit≤ tt; last = lit≤ tt; may = tt }, (record { first = lit≤ tt; last = lit≤ tt; may = ((2, lit< tt, refl), lit≤ tt) }, (record { first = lit≤ tt; last = lit≤ tt; may = tt }, (record { first = lit≤ tt; last = lit≤ tt; may = ((2, lit< tt, refl), lit≤ tt) }, tt))))))))))))))))))))))))))))))))))))))))))))
 
 pub layout_schedule : IsSchedule three_layouts 3 4096 layout_events
@@ -156,7 +165,7 @@ layout_decides (suc (suc (suc (suc i)))) low high = absurd (omega arith)
 
 -- the journal of node 1 is of the newest layout there
 pub layout_renewed : (state_after three_layouts 3 4096 layout_events 1).base.layout ≡ newest
-unfolding process before after act part item_at found_after first joined_after gained input_of reply refusal objection shortage no_room is_touched already stale out_of_turn too_many latest term_led with_term greater_term used cost retired is_retire floor_for floor is_retired names is_named touched bid_for first_stand stood message_of taken upto_of credit is_live_stand stands is_below is_less is_key is_bid makes_leader first_leader leader passed_on emit sent
+unfolding happening.process before after happening.act part item_at found_after first joined_after by_rule.gained input_of by_rule.reply by_rule.refusal objection shortage no_room is_touched already stale out_of_turn too_many latest term_led with_term greater_term used cost retired is_retire floor_for floor is_retired names is_named touched bid_for first_stand stood message_of taken upto_of credit is_live_stand stands is_below is_less is_key is_bid makes_leader first_leader leader passed_on emit sent
 layout_renewed = refl
 
 pub layout_whole : IsWhole (histories three_layouts 3 4096 layout_events) layout_run

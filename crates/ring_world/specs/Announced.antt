@@ -4,7 +4,7 @@ use Rattle.std.specs.List.{Contains, filter_map}
 use Rattle.ring_records.specs.declared.candidate.Candidate.{Candidate}
 use Rattle.ring_records.specs.declared.input.Input.TheVariants.{Stand}
 use Rattle.ring_records.specs.declared.key.Key.{Key}
-use Rattle.ring_world.specs.Committed.{committed}
+use Rattle.ring_world.specs.Capacity.{committed}
 use Rattle.ring_world.specs.Events.{Replied, Sent, Shown, Action, Submit, Launch, LaunchAll, Land, Release, Crash}
 use Rattle.ring_world.specs.Released.{named_by}
 use Rattle.ring_world.specs.Ring.{RingView}

@@ -1,5 +1,7 @@
 pub mod Agreement
 pub mod Announced
+pub mod Based
+pub mod Capacity
 pub mod Committed
 pub mod Counts
 pub mod Dropped
@@ -9,9 +11,11 @@ pub mod Histories
 pub mod Released
 pub mod Rest
 pub mod Ring
+pub mod Schedule
+pub mod Schedules
 pub mod Shows
+pub mod Stage
 pub mod Start
 pub mod State
-pub mod Stage
 pub mod Step
 pub mod WorkedSchedule

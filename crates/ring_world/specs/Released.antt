@@ -8,13 +8,14 @@ use Rattle.ring_records.specs.declared.reply.Reply.TheVariants as say
 use Rattle.ring_records.specs.declared.request.Request.{Request}
 use Rattle.ring_records.specs.declared.request.Request.TheVariants as ask
 use Rattle.ring_records.specs.States.{NodeState}
-use Rattle.ring_world.specs.Events.{Thing, Replied, Sent, Shown, Action, Release, RestsOn}
+use Rattle.ring_world.specs.Events.{Thing, Replied, Sent, Shown, Action, Release, RoomRule}
+use Rattle.ring_world.specs.Schedules.{RestsOn}
 
 -- What the thing rested on, at its release, were inputs that were durable at its node; they are durable now, and the
 -- same.
-pub record IsKept (me n capacity : ℕ) (thing : Thing) (at_release now : NodeState) : Type 0 where
+pub record IsKept (me n : ℕ) (room : RoomRule) (thing : Thing) (at_release now : NodeState) : Type 0 where
   pub number : ℕ
-  pub rested : RestsOn me n capacity at_release.inputs number thing
+  pub rested : RestsOn me n room at_release.inputs number thing
   pub was_durable : number ≤ at_release.durable
   pub is_durable : number ≤ now.durable
   pub same : take number now.inputs ≡ take number at_release.inputs

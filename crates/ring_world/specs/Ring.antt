@@ -1,7 +1,9 @@
 -- A ring of nodes: what happened to it, and the parts that its events are made of.
-use Rattle.std.specs.Prelude.{ℕ, zero, suc, ◌≡◌, ◌+◌, ◌-◌, ◌^◌, Bool, true, false, ◌&&◌, nat_lt, nat_le, if◌then◌else◌, List, [], ◌∷◌, ◌++◌, length, map, replicate, set, slice_get, slice_index_or, Option, Some, None}
+use Rattle.std.specs.Prelude.{ℕ, zero, suc, ◌≡◌, ◌==◌, ◌+◌, ◌-◌, ◌^◌, Bool, true, false, ◌&&◌, nat_lt, nat_le, if◌then◌else◌, List, [], ◌∷◌, ◌++◌, length, map, replicate, set, slice_get, slice_index_or, Option, Some, None}
 use Rattle.std.specs.List.{filter_map, range_with_len}
+use Rattle.ring_records.specs.declared.candidate.Candidate.{Candidate}
 use Rattle.ring_records.specs.declared.msg.Msg.{Msg}
+use Rattle.ring_records.specs.declared.msg.Msg.TheVariants.{Token, Elected}
 use Rattle.ring_records.specs.declared.packet.Packet.TheVariants.{Carry, Credit}
 use Rattle.ring_records.specs.declared.reply.Reply.{Reply}
 use Rattle.ring_records.specs.declared.request.Request.{Request}
@@ -12,13 +14,15 @@ use Rattle.ring_records.specs.Emission.{sent}
 use Rattle.ring_records.specs.History.{taken}
 use Rattle.ring_records.specs.Lists.{first}
 use Rattle.ring_records.specs.Member.{member}
-use Rattle.ring_records.specs.Order.{is_msg}
+use Rattle.ring_records.specs.Order.{is_key}
 use Rattle.ring_records.specs.Place.{after, before}
-use Rattle.ring_records.specs.States.{NodeState, durable_in, answered_by}
+use Rattle.ring_records.specs.States.{NodeState, durable_in}
+use Rattle.ring_records.specs.Serving.{answered_by}
 use Rattle.ring_node.specs.declared.flight.Flight.{Flight}
 use Rattle.ring_node.specs.declared.flight.Flight.TheVariants.{Batch, Checkpoint}
 use Rattle.ring_node.specs.Open.{Open, serial_of, due, sealed}
-use Rattle.ring_world.specs.Events.{Replied, Sent, Action, Submit, Launch, LaunchAll, Land, Release, Crash, state_after}
+use Rattle.ring_world.specs.Events.{Replied, Sent, Action, Submit, Launch, LaunchAll, Land, Release, Crash}
+use Rattle.ring_world.specs.Capacity.{state_after}
 use Rattle.ring_world.specs.Start.{all_fresh}
 
 -- how many nodes it has, numbered from 1, and their capacity; whether each input is made durable as it is accepted;
@@ -167,6 +171,15 @@ unfoldable pub lost : ℕ → RingView → List ℕ
 lost i w = filter_map serial_of (held_at w i)
 
 -- ---- packets
+
+unfoldable pub is_candidate : Candidate → Candidate → Bool
+is_candidate a b = (a.bid == b.bid) && (a.node == b.node)
+
+unfoldable pub is_msg : Msg → Msg → Bool
+is_msg (Token key c) (Token k d) = is_key key k && is_candidate c d
+is_msg (Token key c) (Elected k d) = false
+is_msg (Elected key c) (Token k d) = false
+is_msg (Elected key c) (Elected k d) = is_key key k && is_candidate c d
 
 abbrev pub is_sent : Option Msg → Msg → Bool
 is_sent None msg = false

@@ -1,4 +1,4 @@
--- What releases so far write: what a journal begins with, and the areas of its checkpoints.
+-- What a journal begins with, by whatever release.
 use Rattle.std.specs.Prelude.{ℕ, ◌≡◌, ◌≤◌, nat_lt, if◌then◌else◌}
 use Rattle.ring_records.specs.declared.base.Base.{Base}
 use Rattle.ring_records.specs.Admission.{base_of, fresh, newest, oldest_area}
@@ -17,11 +17,6 @@ pub record IsFormatted (base : Base) : Type 0 where
   pub least : 1 ≤ base.layout
   pub most : base.layout ≤ newest
   pub is : base ≡ formatted base.layout
-
--- some release writes areas of this layout
-pub record IsWritten (layout : ℕ) : Type 0 where
-  pub least : oldest_area ≤ layout
-  pub most : layout ≤ newest
 
 -- this release formatted the journal of each node
 abbrev pub all_fresh : ℕ → Base

@@ -5,10 +5,10 @@ use Rattle.ring_records.specs.declared.refusal.Refusal.TheVariants as refused
 use Rattle.ring_records.specs.declared.reply.Reply.{Reply}
 use Rattle.ring_records.specs.declared.request.Request.{Request}
 use Rattle.ring_records.specs.declared.request.Request.TheVariants as ask
-use Rattle.ring_records.specs.Admission.{where_so}
+use Rattle.ring_records.specs.Allowed.{where_so}
 use Rattle.ring_records.specs.Lists.{or_else}
 use Rattle.ring_records.specs.Member.{member}
-use Rattle.ring_records.specs.Message.{is_outside}
+use Rattle.ring_records.specs.Outside.{is_outside}
 use Rattle.ring_records.specs.Place.{before}
 use Rattle.ring_node.specs.declared.flight.Flight.{Flight}
 use Rattle.ring_node.specs.declared.flight.Flight.TheVariants as flights

@@ -12,8 +12,9 @@ ghost use Rattle.ring_records.specs.Summary.{empty};
 ghost use Rattle.gated_journal.specs.Reading.{fresh_area};
 ghost use Rattle.group_commit.specs.Desk.{new_desk};
 ghost use Rattle.ring_audit.specs.Placement.{IsWhole};
-ghost use Rattle.ring_world.specs.Committed.{committed};
-ghost use Rattle.ring_world.specs.Events.{Action, state_after, IsSchedule, launched_in};
+ghost use Rattle.ring_world.specs.Capacity.{committed, state_after, launched_in};
+ghost use Rattle.ring_world.specs.Events.{Action};
+ghost use Rattle.ring_world.specs.Schedule.{IsSchedule};
 ghost use Rattle.ring_world.specs.Histories.{histories};
 ghost use Rattle.ring_world.specs.Start.{first_epoch, formatted, IsFormatted};
 

@@ -3,13 +3,13 @@ ghost use Rattle.std.specs.Prelude.{◌≡◌, ◌+◌, ◌≤◌, [], length, t
 ghost use Rattle.ring_records.specs.History.{taken as taken_in};
 ghost use Rattle.ring_records.specs.Member.{member};
 ghost use Rattle.ring_records.specs.Message.{candidate_of};
-ghost use Rattle.ring_records.specs.Order.{is_msg};
-ghost use Rattle.ring_records.specs.States.{shown_in};
+ghost use Rattle.ring_world.specs.Ring.{is_msg, launch};
+ghost use Rattle.ring_records.specs.Serving.{shown_in};
 ghost use Rattle.ring_node.specs.Held.{IsShownBy};
 ghost use Rattle.ring_node.specs.Node.{state_of};
-ghost use Rattle.ring_world.specs.Events.{IsSchedule, process};
+ghost use Rattle.ring_world.specs.Capacity.{process};
+ghost use Rattle.ring_world.specs.Schedule.{IsSchedule};
 ghost use Rattle.ring_world.specs.Happened.{action_of};
-ghost use Rattle.ring_world.specs.Ring.{launch};
 ghost use Rattle.ring_world.specs.Shows.{new_nodes};
 ghost use Rattle.ring_world.specs.Start.{all_fresh};
 ghost use Rattle.ring_world.specs.State.{is_ring, by_log};

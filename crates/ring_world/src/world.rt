@@ -9,8 +9,8 @@ ghost use Rattle.ring_world.specs.declared.announced.Announced.{Announced as The
 ghost use Rattle.ring_world.specs.Announced.{announced, Stands};
 ghost use Rattle.ring_audit.specs.Audits.{HasShape};
 ghost use Rattle.ring_audit.specs.Placement.{lists, IsWhole};
-ghost use Rattle.ring_world.specs.Committed.{committed};
-ghost use Rattle.ring_world.specs.Events.{IsSchedule, state_after};
+ghost use Rattle.ring_world.specs.Capacity.{committed, state_after};
+ghost use Rattle.ring_world.specs.Schedule.{IsSchedule};
 ghost use Rattle.ring_world.specs.Dropped.{withheld};
 ghost use Rattle.ring_world.specs.Histories.{histories};
 ghost use Rattle.ring_world.specs.Start.{all_fresh};

@@ -8,7 +8,8 @@ use Rattle.group_commit.specs.Past.{IsPast}
 use Rattle.node_store.specs.Node.{desk_of, member_of, state_of, device_of}
 use Rattle.node_store.specs.Flying.{settled_base}
 use Rattle.node_store.specs.declared.node.Node.{Node}
-use Rattle.ring_records.specs.States.{gained_by, opened}
+use Rattle.ring_records.specs.States.{opened}
+use Rattle.ring_records.specs.Serving.{gained_by}
 use Rattle.ring_records.specs.declared.input.Input.{Input}
 use Rattle.ring_records.specs.declared.refusal.Refusal.{Refusal}
 use Rattle.ring_records.specs.declared.refusal.Refusal.TheVariants as refused

@@ -8,7 +8,7 @@ ghost use Rattle.node_store.specs.Node as nodes;
 ghost use Rattle.node_store.specs.Flying.{settled_base};
 ghost use Rattle.ring_records.specs.Answer.{Answered};
 ghost use Rattle.ring_records.specs.States.{is_idle, opened};
-ghost use Rattle.ring_records.specs.Message.{is_outside};
+ghost use Rattle.ring_records.specs.Outside.{is_outside};
 
 use crate::Service;
 use disk_model::Device;

@@ -6,7 +6,8 @@ ghost use Rattle.ring_records.specs.Admission.{newest, snapshot_len, used};
 ghost use Rattle.ring_records.specs.Emission.{sent};
 ghost use Rattle.ring_records.specs.History.{taken, credit, stands};
 ghost use Rattle.ring_records.specs.Leader.{leader};
-ghost use Rattle.ring_records.specs.States.{launched_base, shown_in, durable_in};
+ghost use Rattle.ring_records.specs.States.{launched_base, durable_in};
+ghost use Rattle.ring_records.specs.Serving.{shown_in};
 ghost use Rattle.ring_records.specs.Lawful.{IsNodeState, IsLawfulState};
 ghost use Rattle.ring_records.specs.Summary.{floors_in, summary};
 

@@ -1,8 +1,7 @@
 //! Which work of a desk is next.
 ghost use Rattle.std.specs.Prelude.{◌≡◌, None, IfOk, IfErr, IfSome, MatchOption, OnOk, OnErr};
-ghost use Rattle.group_commit.specs.Launching.{launch_objection};
+ghost use Rattle.group_commit.specs.Launching.{launch_objection, is_checkpoint_next, launched_next, IsFitting, IsNoWork, IsUnlaunched, IsWorkOf};
 ghost use Rattle.group_commit.specs.Next.{is_to_make_room};
-ghost use Rattle.group_commit.specs.Launching.{is_checkpoint_next, launched_next, IsFitting, IsNoWork, IsUnlaunched, IsWorkOf};
 
 use crate::desk::Desk;
 use gated_journal::Work;

@@ -1,7 +1,7 @@
 // What nodes are asked, make durable and release.
 ghost use Rattle.std.specs.Prelude.{◌≡◌, ◌≤◌, ◌<◌, ◌+◌, ◌-◌, ◌^◌, ◌++◌, length, map, true, false, OnOk, OnErr, IfOk, vec_len, vec_capacity};
 ghost use Rattle.std.specs.List.{filter_map};
-ghost use Rattle.ring_records.specs.Message.{is_outside};
+ghost use Rattle.ring_records.specs.Outside.{is_outside};
 ghost use Rattle.ring_node.specs.Node.{state_of, made_durable};
 ghost use Rattle.ring_node.specs.Open.{due};
 ghost use Rattle.ring_world.specs.Ring.{node_at, asked, landing, landed, settled, replies, reply_of, release_of, given, handed, drained, brought, is_released};

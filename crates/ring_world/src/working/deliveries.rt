@@ -1,6 +1,6 @@
 // What the links carry.
 ghost use Rattle.std.specs.Prelude.{◌≡◌, ◌≤◌, ◌<◌, ◌^◌, length, true, false, IfOk, IfSome};
-ghost use Rattle.ring_records.specs.Message.{is_outside};
+ghost use Rattle.ring_records.specs.Outside.{is_outside};
 ghost use Rattle.ring_world.specs.Ring.{is_released, carried, ready, next_delivery, swept_one, swept};
 ghost use Rattle.ring_world.specs.State.{IsSameState};
 

@@ -1,12 +1,12 @@
 // The events, none of which is refused.
 ghost use Rattle.std.specs.Prelude.{◌≡◌, ◌<◌, ◌≤◌, ◌^◌, ◌⊎◌, Bool, true, false, not, None, Some, IfOk, IfErr, OnOk, length};
-ghost use Rattle.ring_records.specs.Message.{is_outside};
+ghost use Rattle.ring_records.specs.Outside.{is_outside};
 ghost use Rattle.ring_records.specs.Place.{before};
 ghost use Rattle.ring_world.specs.Ring.{node_at, carried, is_earned, is_released};
 ghost use Rattle.ring_world.specs.Stage.{state_of};
 ghost use Rattle.ring_world.specs.Start.{all_fresh};
 ghost use Rattle.ring_world.specs.State.{IsLeft};
-ghost use Rattle.ring_world.specs.Events.{IsSchedule};
+ghost use Rattle.ring_world.specs.Schedule.{IsSchedule};
 ghost use Rattle.ring_world.specs.Step.{Steps, told, nothing_told, unknown, submitted, flushed, delivered_all, put, stepped, refusal_of, is_lasting};
 
 use super::*;

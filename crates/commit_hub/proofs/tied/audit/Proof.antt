@@ -1,7 +1,7 @@
 -- `audit` reads both halves in one ghost step.
 use mathlib.Core.Path.{◌≡◌, refl, sym, subst}
 use mathlib.Core.List.{List, [], ◌∷◌}
-use Rattle.commit_hub.specs.Tied.{Names}
+use Rattle.commit_hub.specs.Tied.{Names, TieView, held_owns, known_owns}
 use seplogic.Ra.Ura.{Ura}
 use mir.Syntax.{Fn}
 use mir.Val.{Val, vunit, vptr}
@@ -28,8 +28,6 @@ use denote.Triple.Table.{entered}
 use denote.Triple.Walked.{Stays, stay_ref, walk_of, ends_at, Goes-ref, walk_Meets}
 use contract.CodeStep
 use Rattle.core.proofs.ledger.Walks.{hears_last, tells_all}
-use Rattle.commit_hub.specs.Tied.{TieView}
-use Rattle.commit_hub.specs.Tied.{held_owns, known_owns}
 use Rattle.commit_hub.specs.contracts.tied.Held as held-half
 use Rattle.commit_hub.specs.contracts.tied.Known as known-half
 use Rattle.commit_hub.proofs.Halves as steps

@@ -1,7 +1,7 @@
 -- `open` makes a ghost name, and hands out its two halves.
 use mathlib.Core.Path.{◌≡◌, refl}
 use mathlib.Core.List.{List, [], ◌∷◌, ◌++◌}
-use Rattle.commit_hub.specs.Tied.{Names}
+use Rattle.commit_hub.specs.Tied.{Names, nothing as none_durable, held_owns, known_owns}
 use seplogic.Ra.Ura.{Ura}
 use mir.Val.{Val, vstruct, vcons, vnil, of_list}
 use base.Logic.{SProp, ent, emp, via, fst∗}
@@ -25,8 +25,6 @@ use denote.Triple.Spec.{Meets, triple_of}
 use denote.Triple.Table.{entered}
 use denote.Triple.Walked.{walk_of, Walks, ends_at, walked, walk_Meets}
 use Rattle.core.proofs.ledger.Walks.{token, Mark, made, tells_all}
-use Rattle.commit_hub.specs.Tied.{nothing as none_durable}
-use Rattle.commit_hub.specs.Tied.{held_owns, known_owns}
 use Rattle.commit_hub.specs.contracts.tied.Held as held-half
 use Rattle.commit_hub.specs.contracts.tied.Known as known-half
 use Rattle.commit_hub.proofs.Halves as steps

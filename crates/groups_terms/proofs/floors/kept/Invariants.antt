@@ -1,5 +1,5 @@
 use Rattle.std.proofs.Common.{◌≡◌, ◌≤◌, length, drop}
-use Rattle.ring_records.specs.Floors.{floored}
+use Rattle.ring_records.specs.FloorLists.{floored}
 use Rattle.groups_terms.specs.Floors.{told}
 use Rattle.groups_terms.proofs.floors.kept.Given as goal
 

@@ -1,6 +1,6 @@
 use Rattle.std.proofs.Common.{sym, ap, ◌∙◌, subst}
 use Rattle.std.specs.List.Sorted.{IsStrictlySortedBy}
-use Rattle.ring_records.specs.Floors.{by_group, floored}
+use Rattle.ring_records.specs.FloorLists.{by_group, floored}
 use Rattle.groups_terms.proofs.Keeping.{sorted_floors, all_listed, floored-entries}
 use Rattle.groups_terms.proofs.floors.list_of.Goals as goal
 

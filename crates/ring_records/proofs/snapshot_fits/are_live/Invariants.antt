@@ -1,4 +1,4 @@
-use Rattle.ring_records.specs.Floors.{floored}
+use Rattle.ring_records.specs.FloorLists.{floored}
 use Rattle.ring_records.proofs.FloorSearch.{LiveTo}
 use Rattle.ring_records.proofs.snapshot_fits.are_live.Given as goal
 

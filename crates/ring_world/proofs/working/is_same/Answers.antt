@@ -2,7 +2,8 @@ use Rattle.std.proofs.Common.{◌≡◌, refl, ◌∙◌}
 use Rattle.ring_records.specs.declared.msg.Msg.{Msg}
 use Rattle.ring_records.specs.declared.msg.Msg.TheVariants.{Token, Elected}
 use Rattle.ring_records.specs.contracts.msg.MsgPartialEq as derived
-use Rattle.ring_records.specs.Order.{is_key, is_candidate, is_msg}
+use Rattle.ring_records.specs.Order.{is_key}
+use Rattle.ring_world.specs.Ring.{is_candidate, is_msg}
 use Rattle.ring_world.proofs.working.is_same.Goals as goal
 
 same : (a b : Msg) → (derived.TheImpl.eq-value).it a b ≡ is_msg a b

@@ -4,7 +4,7 @@ use Rattle.std.specs.BTreeMap.Range.{IsRangeOf}
 use Rattle.std.specs.declared.ops.Bound.TheVariants.{Included}
 use Rattle.ring_records.specs.declared.key.Key.{Key}
 use Rattle.ring_records.specs.KeyOrder.{key_cmp}
-use Rattle.ring_records.specs.Leader.{IsLatest}
+use Rattle.ring_records.specs.Latest.{IsLatest}
 use Rattle.ring_records.proofs.KeyRange.{key_at, terms_in_order}
 use Rattle.decision_board.specs.Leaders.{LeaderMap, leads}
 use Rattle.decision_board.proofs.Maps.{latest_none, latest_some}

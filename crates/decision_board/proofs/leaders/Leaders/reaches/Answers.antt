@@ -1,6 +1,6 @@
 use Rattle.std.proofs.Common.{ℕ, Option, Some, None, sym, subst, ◌∙◌}
 use Rattle.ring_records.specs.declared.candidate.Candidate.{Candidate}
-use Rattle.ring_records.specs.Leader.{IsLatest}
+use Rattle.ring_records.specs.Latest.{IsLatest}
 use Rattle.decision_board.specs.Leaders.{leads}
 use Rattle.decision_board.proofs.Maps.{le_by, reaches_latest, reaches_none}
 use Rattle.decision_board.proofs.leaders.Leaders.reaches.Goals as goal

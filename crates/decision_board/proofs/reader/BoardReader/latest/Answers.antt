@@ -2,7 +2,7 @@ use Rattle.std.proofs.Common.{sym, subst, List}
 use mathlib.Core.List.{IsPrefix}
 use Rattle.ring_records.specs.declared.notice.Notice.{Notice}
 use Rattle.ring_records.specs.Notices.{leads_in}
-use Rattle.ring_records.specs.Leader.{IsLatest}
+use Rattle.ring_records.specs.Latest.{IsLatest}
 use Rattle.ring_records.proofs.Notices.{latest_in-kept}
 use Rattle.ring_records.proofs.Prefixes.{prefix_trans}
 use Rattle.decision_board.proofs.reader.BoardReader.latest.Goals as goal

@@ -4,9 +4,8 @@ use Rattle.ring_records.specs.Admission.{costs_of, newest}
 use Rattle.ring_records.specs.Member.{Member}
 use Rattle.ring_records.specs.Snapshot.{snapshot_len}
 use Rattle.gated_journal.specs.Areas.{ReadsAt, ReadsAsOneOf}
-use Rattle.gated_journal.specs.AreaWritten.{IsGate, MayReplace, leaves_closed}
+use Rattle.gated_journal.specs.AreaWritten.{IsGate, MayReplace, leaves_closed, IsFrame}
 use Rattle.gated_journal.specs.Frames.{AreSuited}
-use Rattle.gated_journal.specs.AreaWritten.{IsFrame}
 use Rattle.gated_journal.specs.Place.{reading_behind, IsReadHere, IsTakenAt, Stands}
 use Rattle.gated_journal.specs.Reading.{Reading, fresh_area, with_more}
 use Rattle.gated_journal.specs.declared.batch.Batch.{Batch}

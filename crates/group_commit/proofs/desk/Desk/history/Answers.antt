@@ -1,8 +1,7 @@
 use Rattle.std.proofs.Common.{List, subst}
 use Rattle.ring_records.specs.declared.input.Input.{Input}
-use Rattle.ring_records.specs.Lawful.{IsLawful}
+use Rattle.ring_records.specs.Lawful.{IsLawful, IsNodeState, IsLawfulState}
 use Rattle.ring_records.specs.States.{launched_base}
-use Rattle.ring_records.specs.Lawful.{IsNodeState, IsLawfulState}
 use Rattle.group_commit.specs.Desk.{DeskKept, seen}
 use Rattle.group_commit.specs.Past.{IsPast}
 use Rattle.group_commit.proofs.Inside.{member_in, state_in}

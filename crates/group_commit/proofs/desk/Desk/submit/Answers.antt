@@ -4,7 +4,8 @@ use Rattle.std.specs.Map.{lookup, remove_entry}
 use Rattle.ring_records.specs.declared.input.Input.{Input}
 use Rattle.ring_records.specs.Answer.{Answered}
 use Rattle.ring_records.specs.Known.{after}
-use Rattle.ring_records.specs.States.{NodeState, gained_by}
+use Rattle.ring_records.specs.States.{NodeState}
+use Rattle.ring_records.specs.Serving.{gained_by}
 use Rattle.node_core.specs.Core.{Refuses}
 use Rattle.group_commit.specs.Desk.{DeskKept, IsSubmitted, answered, seen}
 use Rattle.group_commit.specs.declared.desk.Desk.TheInside.{Inside}

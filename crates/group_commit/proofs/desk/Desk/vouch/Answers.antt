@@ -2,7 +2,8 @@ use Rattle.std.proofs.Common.{rules, ◌≡◌, ◌≤◌, ◌+◌, ◌-◌, ◌
 use Rattle.ring_records.specs.declared.input.Input.{Input}
 use Rattle.ring_records.specs.declared.reply.Reply.{Reply}
 use Rattle.ring_records.specs.declared.summary.Summary.{Summary}
-use Rattle.ring_records.specs.Answer.{Answer, Answered, answer}
+use Rattle.ring_records.specs.Answer.{Answer, Answered}
+use Rattle.ring_records.specs.Answering.{answer}
 use Rattle.ring_records.specs.Admission.{fresh}
 use Rattle.ring_records.specs.Known.{after}
 use Rattle.ring_records.specs.States.{launched_base}

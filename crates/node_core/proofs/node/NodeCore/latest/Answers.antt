@@ -1,6 +1,6 @@
 use Rattle.std.proofs.Common.{subst}
 use Rattle.ring_records.specs.Known.{leads_in}
-use Rattle.ring_records.specs.Leader.{IsLatest}
+use Rattle.ring_records.specs.Latest.{IsLatest}
 use Rattle.node_core.specs.Core.{CoreView}
 use Rattle.node_core.proofs.Histories.{leads_last}
 use Rattle.node_core.proofs.node.NodeCore.latest.Goals as goal

@@ -1,7 +1,7 @@
 use Rattle.std.proofs.Common.{[], ◌∙◌, ap}
 use Rattle.node_core.specs.Core.{FreeView}
 use Rattle.node_core.specs.declared.effects.Effects.{Effects}
-use Rattle.ring_records.specs.Admission.{IsAllowed}
+use Rattle.ring_records.specs.Allowed.{IsAllowed}
 use Rattle.ring_records.specs.Known.{stepped}
 use Rattle.ring_records.proofs.Lists.{EachAfter-push}
 use Rattle.ring_records.proofs.RetireStep.{stepped-known}

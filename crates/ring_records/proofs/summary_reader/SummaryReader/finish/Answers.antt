@@ -2,7 +2,7 @@ use Rattle.std.proofs.Common.{arith, Option, refl, sym, ap, ◌∙◌, subst}
 use Rattle.std.specs.List.Sorted.{IsStrictlySortedBy}
 use Rattle.ring_records.specs.declared.snapshot_read.Counts.{Counts}
 use Rattle.ring_records.specs.Snapshot.{Spells}
-use Rattle.ring_records.specs.Floors.{by_group, floored}
+use Rattle.ring_records.specs.FloorLists.{by_group, floored}
 use Rattle.ring_records.specs.KeyStates.{by_state, keyed}
 use Rattle.ring_records.specs.SnapshotPart.{SnapshotPart, Parts, shown, taken_of}
 use Rattle.ring_records.specs.Summary.{empty}

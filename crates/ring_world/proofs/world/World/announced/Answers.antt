@@ -2,6 +2,7 @@ use Rattle.std.proofs.Common.{◌≡◌, ap, ◌∙◌, subst}
 use Rattle.std.specs.List.{Contains}
 use Rattle.ring_records.specs.declared.key.Key.{Key}
 use Rattle.ring_world.specs.Announced.{announced}
+use Rattle.ring_world.specs.Capacity.{within}
 use Rattle.ring_world.specs.Released.{IsAnnounced}
 use Rattle.ring_world.specs.Start.{all_fresh}
 use Rattle.ring_world.specs.State.{State, IsWorld}
@@ -25,16 +26,16 @@ returns-clause-same c = λ x y p q e.
     let here = (goal.at.returns-clause-same c).In_ok-list in
     let first = announced_is s.ring.told x (subst (λ v. Contains v x) (listed here) p) in
     let second = announced_is s.ring.told y (subst (λ v. Contains v y) (listed here) q) in
-    c.headline.ensures.same all_fresh s.ring.size s.ring.capacity s.ring.told y.key x.leader y.leader (world here).lawful (subst (λ (k : Key). IsAnnounced s.ring.told k x.leader) e first) second
+    c.headline.ensures.same all_fresh s.ring.size (within s.ring.capacity) s.ring.told y.key x.leader y.leader (world here).lawful.each (subst (λ (k : Key). IsAnnounced s.ring.told k x.leader) e first) second
 
 pub returns-clause-stands : goal.returns-clause-stands
 returns-clause-stands c = λ x p.
     let s = c.args.self.now in
     let here = (goal.at.returns-clause-stands c).In_ok-list in
-    c.headline.ensures.stands all_fresh s.ring.size s.ring.capacity s.ring.told x.key x.leader (world here).lawful (announced_is s.ring.told x (subst (λ v. Contains v x) (listed here) p))
+    c.headline.ensures.stands all_fresh s.ring.size (within s.ring.capacity) s.ring.told x.key x.leader (world here).lawful.each (announced_is s.ring.told x (subst (λ v. Contains v x) (listed here) p))
 
 pub returns-clause-greatest : goal.returns-clause-greatest
 returns-clause-greatest c = λ x d p stands ne.
     let s = c.args.self.now in
     let here = (goal.at.returns-clause-greatest c).In_ok-list in
-    c.headline.ensures.greatest all_fresh s.ring.size s.ring.capacity s.ring.told x.key x.leader d (world here).lawful (announced_is s.ring.told x (subst (λ v. Contains v x) (listed here) p)) stands ne
+    c.headline.ensures.greatest all_fresh s.ring.size (within s.ring.capacity) s.ring.told x.key x.leader d (world here).lawful.each (announced_is s.ring.told x (subst (λ v. Contains v x) (listed here) p)) stands ne
