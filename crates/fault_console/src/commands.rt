@@ -1,7 +1,7 @@
 // Lines to commands.
 ghost use Rattle.std.specs.Prelude.{◌≡◌, ◌==◌, ◌≤◌, ◌∷◌, [], map, true, IfOk};
 ghost use Rattle.std.specs.List.{list_all};
-ghost use Rattle.ring_world.specs.State.{is_ring};
+ghost use Rattle.ring_world.specs.Worlds.{is_ring};
 ghost use Rattle.line_words.specs.Forms.{form_says, line_says, number_word};
 ghost use Rattle.fault_console.specs.Commands.{commands, shapes, is_silent};
 

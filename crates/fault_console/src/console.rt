@@ -1,7 +1,8 @@
 // One line of the script after the other.
 ghost use Rattle.std.specs.Prelude.{◌≡◌, ◌∷◌, [], ◌+◌, ◌≤◌, true, false, Ok, Some, None, IfErr, IfOk, OnErr, OnOk, string_bytes};
 ghost use Rattle.ring_records.specs.Texts.{refusal_text};
-ghost use Rattle.ring_world.specs.State.{opened, is_ring};
+ghost use Rattle.ring_world.specs.State.{opened};
+ghost use Rattle.ring_world.specs.Worlds.{is_ring};
 ghost use Rattle.ring_world.specs.Step.{refusal_of};
 ghost use Rattle.line_words.specs.Forms.{line_says};
 ghost use Rattle.fault_console.specs.Commands.{commands, is_silent};

@@ -4,7 +4,8 @@ use Rattle.std.specs.Int.{w16, w32, to_be_bytes, from_be_bytes}
 use Rattle.std.proofs.lemmas.List.{take_at, drop-drop}
 use Rattle.std.proofs.lemmas.Nat.{be_bytes_2, be_bytes_4, from_be_bytes-to_be_bytes_2, from_be_bytes-to_be_bytes_4}
 use Rattle.ring_records.specs.declared.input.Input.{Input}
-use Rattle.ring_records.specs.Record.{AreBytes, record_of}
+use Rattle.ring_records.specs.Record.{record_of}
+use Rattle.ring_records.specs.RecordLists.{AreBytes}
 use Rattle.ring_records.proofs.Records.{record-short}
 use Rattle.gated_journal.specs.Frames.{records, body, HaveRecords, IsBatch}
 use Rattle.gated_journal.specs.NextFrame.{HasHead}

@@ -3,7 +3,8 @@ use Rattle.std.proofs.Common.{◌≡◌, ℕ, ◌+◌, ◌*◌, ◌≤◌, List,
 use Rattle.std.proofs.lemmas.List.{append-nil}
 use Rattle.ring_records.specs.declared.input.Input.{Input}
 use Rattle.ring_records.specs.Admission.{cost, costs_of, newest}
-use Rattle.ring_records.specs.Record.{AreBytes, HasRecord, record_of}
+use Rattle.ring_records.specs.Record.{HasRecord, record_of}
+use Rattle.ring_records.specs.RecordLists.{AreBytes}
 use Rattle.ring_records.specs.RecordReading.{record_read}
 use Rattle.ring_records.proofs.Counts.{costs-joined}
 use Rattle.ring_records.proofs.Iteration.{IsItem, take-item}

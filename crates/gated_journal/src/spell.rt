@@ -2,7 +2,8 @@
 ghost use Rattle.std.specs.Prelude.{◌≡◌, ◌≤◌, ◌+◌, ◌*◌, ◌^◌, ◌<◌, ◌++◌, ◌∷◌, [], length, IfOk, OnOk};
 ghost use Rattle.ring_records.specs.declared.limits.TheConstants.{BATCH_INPUTS};
 ghost use Rattle.ring_records.specs.Admission.{costs_of, newest};
-ghost use Rattle.ring_records.specs.Record.{AreBytes, HasRecord, record_of};
+ghost use Rattle.ring_records.specs.Record.{HasRecord, record_of};
+ghost use Rattle.ring_records.specs.RecordLists.{AreBytes};
 ghost use Rattle.gated_journal.specs.Frames.{records};
 ghost use Rattle.gated_journal.specs.AreaWritten.{IsFrame};
 

@@ -7,7 +7,7 @@ use Rattle.ring_records.specs.declared.refusal.Refusal.TheVariants.{Failed, Busy
 use Rattle.ring_records.specs.declared.refusal.Refusal.{Refusal}
 use Rattle.ring_records.specs.Lists.{or_else}
 use Rattle.ring_records.specs.Admission.{used, newest}
-use Rattle.ring_records.specs.Allowed.{where_so}
+use Rattle.ring_records.specs.Objection.{where_so}
 use Rattle.ring_records.specs.Snapshot.{snapshot_len}
 use Rattle.ring_records.specs.States.{is_idle, launched_base}
 use Rattle.ring_records.specs.declared.base.Base.{Base}

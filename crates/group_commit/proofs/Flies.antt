@@ -7,8 +7,8 @@ use Rattle.std.proofs.lemmas.List.{take_all, take-take}
 use Rattle.std.proofs.lemmas.Option.{same_Some}
 use Rattle.ring_records.specs.declared.base.Base.{Base}
 use Rattle.ring_records.specs.declared.input.Input.{Input}
-use Rattle.ring_records.specs.Admission.{newest, IsBaseOf}
-use Rattle.ring_records.specs.Lawful.{IsLawful, IsNodeState, IsLawfulState}
+use Rattle.ring_records.specs.Admission.{newest}
+use Rattle.ring_records.specs.Lawful.{IsBaseOf, IsLawful, IsNodeState, IsLawfulState}
 use Rattle.ring_records.specs.Member.{Member}
 use Rattle.ring_records.specs.Snapshot.{snapshot_len}
 use Rattle.ring_records.specs.States as states

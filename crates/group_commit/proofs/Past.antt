@@ -19,11 +19,12 @@ use Rattle.ring_records.specs.declared.request.Request.{Request}
 use Rattle.ring_records.specs.declared.request.Request.TheVariants as ask
 use Rattle.ring_records.specs.declared.room.Room.{Room}
 use Rattle.ring_records.specs.declared.summary.Summary.{Summary}
-use Rattle.ring_records.specs.Admission.{area_bytes, base_of, costs_of, is_retire, no_room, room_of, snapshot_len, used, shortage, refusal, IsBaseOf, newest}
-use Rattle.ring_records.specs.Allowed.{objection, where_so, retired, IsAllowed}
-use Rattle.ring_records.specs.Lawful.{HasRoom, Fits, IsAdmitted, IsLawful}
+use Rattle.ring_records.specs.Admission.{area_bytes, base_of, costs_of, is_retire, no_room, room_of, snapshot_len, used, shortage, newest}
+use Rattle.ring_records.specs.Lawful.{IsBaseOf, HasRoom, Fits, IsAdmitted, IsLawful}
+use Rattle.ring_records.specs.Answering.{refusal, gained, reply, answered}
+use Rattle.ring_records.specs.Allowed.{IsAllowed}
+use Rattle.ring_records.specs.Objection.{objection, where_so, retired}
 use Rattle.ring_records.specs.Answer.{input_of, if_free, unless}
-use Rattle.ring_records.specs.Answering.{gained, reply, answered}
 use Rattle.ring_records.specs.Answer as by_rule
 use Rattle.ring_records.specs.Emission.{sent}
 use Rattle.ring_records.specs.Release.{carry}

@@ -12,7 +12,7 @@ use Rattle.ring_records.specs.declared.packet.Packet.{Packet}
 use Rattle.ring_records.specs.declared.packet.Packet.TheVariants.{Carry}
 use Rattle.ring_records.specs.declared.refusal.Refusal.TheVariants as refused
 use Rattle.ring_records.specs.declared.summary.Summary.{Summary}
-use Rattle.ring_records.specs.Allowed.{where_so, already, stale}
+use Rattle.ring_records.specs.Objection.{where_so, already, stale}
 use Rattle.ring_records.specs.Known.{Objects, retired_in, stood_of, known_of, sends, stepped}
 use Rattle.ring_records.specs.Lists.{or_else}
 use Rattle.ring_records.specs.Release.{numbered}

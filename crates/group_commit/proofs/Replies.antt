@@ -7,8 +7,7 @@ use Rattle.ring_records.specs.declared.base.Base.{Base}
 use Rattle.ring_records.specs.declared.input.Input.{Input}
 use Rattle.ring_records.specs.declared.request.Request.{Request}
 use Rattle.ring_records.specs.declared.summary.Summary.{Summary}
-use Rattle.ring_records.specs.Admission.{IsBaseOf}
-use Rattle.ring_records.specs.Lawful.{IsLawful, IsLawfulState}
+use Rattle.ring_records.specs.Lawful.{IsBaseOf, IsLawful, IsLawfulState}
 use Rattle.ring_records.specs.Answer.{Answer, Answered}
 use Rattle.ring_records.specs.Answering.{Answers, answer, gained}
 use Rattle.ring_records.specs.Member.{Member}

@@ -9,9 +9,9 @@ use Rattle.ring_records.specs.declared.base.Base.{Base}
 use Rattle.ring_records.specs.declared.input.Input.{Input}
 use Rattle.ring_records.specs.declared.request.Request.{Request}
 use Rattle.ring_records.specs.declared.summary.Summary.{Summary}
-use Rattle.ring_records.specs.Admission.{newest, IsBaseOf}
+use Rattle.ring_records.specs.Admission.{newest}
+use Rattle.ring_records.specs.Lawful.{IsBaseOf, IsAdmitted, IsLawful, IsLawfulState}
 use Rattle.ring_records.specs.Allowed.{IsAllowed}
-use Rattle.ring_records.specs.Lawful.{IsAdmitted, IsLawful, IsLawfulState}
 use Rattle.ring_records.specs.Known.{Objects, after}
 use Rattle.ring_records.specs.Lists.{EachAfter}
 use Rattle.ring_records.specs.Member.{Member}

@@ -13,10 +13,10 @@ use Rattle.ring_records.specs.declared.reply.Reply.TheVariants as say
 use Rattle.ring_records.specs.declared.request.Request.{Request}
 use Rattle.ring_records.specs.declared.request.Request.TheVariants as ask
 use Rattle.ring_records.specs.declared.summary.Summary.{Summary}
-use Rattle.ring_records.specs.Admission.{cost, fresh, lacks, refusal, used}
-use Rattle.ring_records.specs.Allowed.{objection}
+use Rattle.ring_records.specs.Admission.{cost, fresh, lacks, used}
+use Rattle.ring_records.specs.Answering.{refusal, gained, reply, answer}
+use Rattle.ring_records.specs.Objection.{objection}
 use Rattle.ring_records.specs.Answer.{Answer, Answered, input_of, if_free, unless}
-use Rattle.ring_records.specs.Answering.{gained, reply, answer}
 use Rattle.ring_records.specs.Answer as by_rule
 use Rattle.ring_records.specs.Known.{Objects, known_of, leader_of, leads_in}
 use Rattle.ring_records.specs.Leader.{leader, latest}

@@ -9,8 +9,8 @@ use Rattle.ring_records.specs.declared.refusal.Refusal.{Refusal}
 use Rattle.ring_records.specs.declared.refusal.Refusal.TheVariants as refused
 use Rattle.ring_records.specs.declared.request.Request.{Request}
 use Rattle.ring_records.specs.declared.summary.Summary.{Summary}
-use Rattle.ring_records.specs.Admission.{base_of, newest, used, IsBaseOf}
-use Rattle.ring_records.specs.Lawful.{IsLawful}
+use Rattle.ring_records.specs.Admission.{base_of, newest, used}
+use Rattle.ring_records.specs.Lawful.{IsBaseOf, IsLawful}
 pub use Rattle.ring_records.specs.Admission.{epochs}
 use Rattle.ring_records.specs.Answer.{Answered}
 use Rattle.ring_records.specs.Answering.{Answers}

@@ -4,7 +4,7 @@ use Rattle.ring_records.specs.declared.base.Base.{Base}
 use Rattle.ring_records.specs.declared.refusal.Refusal.{Refusal}
 use Rattle.ring_records.specs.declared.refusal.Refusal.TheVariants as refused
 use Rattle.ring_records.specs.Admission.{newest, epochs}
-use Rattle.ring_records.specs.Allowed.{where_so}
+use Rattle.ring_records.specs.Objection.{where_so}
 use Rattle.ring_records.specs.Lists.{or_else}
 use Rattle.ring_records.specs.States.{is_idle, launched_base, flying_in}
 use Rattle.ring_records.specs.Snapshot.{snapshot_len}

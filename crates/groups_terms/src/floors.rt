@@ -1,7 +1,7 @@
 // The floors of groups, as they are kept.
 ghost use Rattle.std.specs.Prelude.{◌≡◌, Some, IfOk, OnOk, OnErr};
 ghost use Rattle.std.specs.FinMap as map;
-ghost use Rattle.ring_records.specs.Floors.{is_below_floor};
+ghost use Rattle.ring_records.specs.FloorOf.{is_below_floor};
 ghost use Rattle.ring_records.specs.KeyOrder.{group_cmp};
 ghost use Rattle.groups_terms.specs.Floors.{told};
 

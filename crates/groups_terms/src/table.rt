@@ -6,7 +6,7 @@ ghost use Rattle.ring_records.specs.declared.candidate.Candidate.{Candidate};
 ghost use Rattle.ring_records.specs.declared.key.Key.{Key};
 ghost use Rattle.ring_records.specs.declared.msg.Msg.TheVariants.{Token};
 ghost use Rattle.ring_records.specs.Admission.{state_len};
-ghost use Rattle.ring_records.specs.Floors.{is_below_floor};
+ghost use Rattle.ring_records.specs.FloorOf.{is_below_floor};
 ghost use Rattle.ring_records.specs.KeyOrder.{key_cmp};
 ghost use Rattle.ring_records.specs.KeyStates.{keyed};
 ghost use Rattle.ring_records.specs.Known.{drops, passed};

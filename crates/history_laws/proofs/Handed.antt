@@ -13,7 +13,8 @@ use Rattle.ring_records.specs.declared.msg.Msg.{Msg}
 use Rattle.ring_records.specs.declared.refusal.Refusal.{Refusal}
 use Rattle.ring_records.specs.declared.reply.Reply.TheVariants as say
 use Rattle.ring_records.specs.declared.request.Request.TheVariants as ask
-use Rattle.ring_records.specs.Allowed.{IsAllowed, retired}
+use Rattle.ring_records.specs.Allowed.{IsAllowed}
+use Rattle.ring_records.specs.Objection.{retired}
 use Rattle.ring_records.specs.Answer.{Answer, unless}
 use Rattle.ring_records.specs.Answering.{Answers, reply}
 use Rattle.ring_records.specs.Answer as by_rule

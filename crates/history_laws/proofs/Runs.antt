@@ -5,7 +5,8 @@ use Rattle.std.proofs.lemmas.List.Elements.{filter_map-append}
 use Rattle.ring_records.specs.declared.input.Input.{Input}
 use Rattle.ring_records.specs.declared.input.Input.TheVariants.{Take}
 use Rattle.ring_records.specs.Place.{before}
-use Rattle.ring_records.specs.Ring.{item_at, part, IsCarried, MayFollow, IsLegal}
+use Rattle.ring_records.specs.Ring.{IsCarried, MayFollow, IsLegal}
+use Rattle.ring_records.specs.Part.{item_at, part}
 use Rattle.ring_records.proofs.Growth.{EachAfter-at}
 use Rattle.ring_records.proofs.Leader.{Contains-nil, Contains-cons_cases}
 use Rattle.ring_records.proofs.Parts.{legal_parts}

@@ -19,7 +19,8 @@ ghost use Rattle.ring_records.specs.Answer.{Answer};
 ghost use Rattle.ring_records.specs.Answering.{Answers};
 ghost use Rattle.ring_records.specs.Leader.{leader};
 ghost use Rattle.ring_records.specs.Order.{is_less};
-ghost use Rattle.ring_records.specs.Ring.{IsLegal, part};
+ghost use Rattle.ring_records.specs.Ring.{IsLegal};
+ghost use Rattle.ring_records.specs.Part.{part};
 ghost use Rattle.history_laws.specs.Linked.{AreHanded, AreLinked, IsLeaderIn};
 
 /// Of lawful histories in which each message that was taken was sent by the node before, all leaders that are known for a

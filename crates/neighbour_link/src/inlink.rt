@@ -1,6 +1,6 @@
 // The link from the predecessor.
 ghost use Rattle.std.specs.Prelude.{◌≡◌, ◌↔◌, ◌+◌, ◌<◌, ◌^◌};
-ghost use Rattle.ring_records.specs.Allowed.{out_of_turn};
+ghost use Rattle.ring_records.specs.Objection.{out_of_turn};
 ghost use Rattle.neighbour_link.specs.Inlink.{refusal_of};
 
 use crate::judged::Judged;
@@ -46,7 +46,7 @@ impl Inlink {
     }
 
     /// Whether the number is the expected one, below it or above it.
-    #[tactic(auto, unfolding(ring_records::specs::Allowed::out_of_turn))]
+    #[tactic(auto, unfolding(ring_records::specs::Objection::out_of_turn))]
     pub fn judge(&self, no: u64) -> Judged
         ensures next { (result ≡ Judged.Next) ↔ (no ≡ self.now) }
         ensures old { (result ≡ Judged.Old) ↔ (no < self.now) }

@@ -4,7 +4,7 @@ ghost use Rattle.std.specs.Result.{result_err};
 ghost use Rattle.ring_records.specs.declared.input.Input.{Input};
 ghost use Rattle.ring_records.specs.declared.input.Input.TheVariants.{Acked};
 ghost use Rattle.ring_records.specs.declared.msg.Msg.{Msg};
-ghost use Rattle.ring_records.specs.Allowed.{objection, too_many};
+ghost use Rattle.ring_records.specs.Objection.{objection, too_many};
 ghost use Rattle.ring_records.specs.Emission as emission;
 ghost use Rattle.ring_records.specs.History as history;
 ghost use Rattle.ring_records.specs.Lists.{or_else};
@@ -121,7 +121,7 @@ impl Outlink {
 
     /// Whether the successor may have taken the first `upto` messages now: refused as 13 (Old) where that is not above
     /// the credit so far, else as 14 (AckAhead) where it is above the count sent.
-    #[tactic(auto, unfolding(ring_records::specs::Allowed::objection))]
+    #[tactic(auto, unfolding(ring_records::specs::Objection::objection))]
     pub fn judge(&self, upto: u64) -> Result<(), Refusal>
         ensures value { result_err result ≡ credit_objection self.now.link.credited (sent_count self.now.link) upto }
         ensures admission { (me n : ℕ) (h : List Input) → OutlinkStandsFor self.now.link (emission.sent me h) (history.credit h)

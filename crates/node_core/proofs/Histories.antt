@@ -18,8 +18,10 @@ use Rattle.ring_records.specs.declared.packet.Packet.TheVariants.{Carry}
 use Rattle.ring_records.specs.declared.refusal.Refusal.{Refusal}
 use Rattle.ring_records.specs.declared.refusal.Refusal.TheVariants as refused
 use Rattle.ring_records.specs.declared.summary.Summary.{Summary}
-use Rattle.ring_records.specs.Admission.{base_of, costs_of, is_retire, no_room, room_of, shortage, snapshot_len, used, refusal, newest}
-use Rattle.ring_records.specs.Allowed.{objection, IsAllowed}
+use Rattle.ring_records.specs.Admission.{base_of, costs_of, is_retire, no_room, room_of, shortage, snapshot_len, used, newest}
+use Rattle.ring_records.specs.Answering.{refusal}
+use Rattle.ring_records.specs.Allowed.{IsAllowed}
+use Rattle.ring_records.specs.Objection.{objection}
 use Rattle.ring_records.specs.Answer as by_rule
 use Rattle.ring_records.specs.Emission.{is_below, passed_on, emit, sent}
 use Rattle.ring_records.specs.Release.{carry}

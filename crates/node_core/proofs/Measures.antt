@@ -14,9 +14,10 @@ use Rattle.ring_records.specs.declared.msg.Msg.{Msg}
 use Rattle.ring_records.specs.declared.summary.Summary.{Summary}
 use Rattle.ring_records.specs.declared.refusal.Refusal.TheVariants as refused
 use Rattle.ring_records.specs.Admission.{state_len, msg_len, floor_len, snapshot_len, newest}
-use Rattle.ring_records.specs.Allowed.{where_so, already, stale}
+use Rattle.ring_records.specs.Objection.{where_so, already, stale}
 use Rattle.ring_records.specs.Lists.{or_else}
-use Rattle.ring_records.specs.Floors.{floor_keys, is_below_floor}
+use Rattle.ring_records.specs.Floors.{floor_keys}
+use Rattle.ring_records.specs.FloorOf.{is_below_floor}
 use Rattle.ring_records.specs.Known.{drops, passed, heard, retired_in, stood_of, leader_of, sends, stepped, known_of, Objects}
 use Rattle.ring_records.specs.Message.{key_of}
 use Rattle.ring_records.proofs.Admission.{or_else-none, where_so-none}

@@ -12,7 +12,7 @@ use Rattle.ring_records.specs.declared.msg.Msg.{Msg}
 use Rattle.ring_records.specs.declared.refusal.Refusal.{Refusal}
 use Rattle.ring_records.specs.declared.refusal.Refusal.TheVariants as refused
 use Rattle.ring_records.specs.declared.summary.Summary.{Summary}
-use Rattle.ring_records.specs.Allowed.{where_so, already, stale}
+use Rattle.ring_records.specs.Objection.{where_so, already, stale}
 use Rattle.ring_records.specs.Known.{Objects, leads_in, retired_in}
 use Rattle.ring_records.specs.Leader.{term_of}
 use Rattle.ring_records.specs.Latest.{IsLatest}

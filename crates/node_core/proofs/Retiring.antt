@@ -17,7 +17,7 @@ use Rattle.ring_records.specs.Allowed.{IsInTurn, IsAllowed}
 use Rattle.ring_records.specs.Emission.{emit, sent}
 use Rattle.ring_records.specs.History.{floor, is_retired, bid_for, first_stand, stood, is_live_stand, stands, message_of, taken, upto_of, credit}
 use Rattle.ring_records.specs.KeyOrder.{key_cmp}
-use Rattle.ring_records.specs.Floors.{is_below_floor}
+use Rattle.ring_records.specs.FloorOf.{is_below_floor}
 use Rattle.ring_records.specs.Known.{Objects, drops, heard, known_of, leader_of, stepped, stood_of}
 use Rattle.ring_records.specs.Lists.{first, or_else}
 use Rattle.ring_records.specs.Message.{key_of}

@@ -11,7 +11,7 @@ use Rattle.ring_records.specs.declared.msg.Msg.{Msg}
 use Rattle.ring_records.specs.declared.msg.Msg.TheVariants.{Token}
 use Rattle.ring_records.specs.Record.{HasRecord}
 use Rattle.ring_records.proofs.Sound.{sound-stepped}
-use Rattle.ring_records.specs.Floors.{is_below_floor}
+use Rattle.ring_records.specs.FloorOf.{is_below_floor}
 use Rattle.ring_records.specs.KeyOrder.{key_cmp}
 use Rattle.ring_records.specs.KeyStates.{keyed}
 use Rattle.ring_records.specs.Known.{Objects, drops, known_of, passed, shown, stood_of, leader_of, sends, stepped, heard as known_heard}

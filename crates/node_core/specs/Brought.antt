@@ -13,7 +13,7 @@ use Rattle.ring_records.specs.declared.packet.Packet.TheVariants.{Carry}
 use Rattle.ring_records.specs.declared.refusal.Refusal.{Refusal}
 use Rattle.ring_records.specs.declared.refusal.Refusal.TheVariants as refused
 use Rattle.ring_records.specs.declared.summary.Summary.{Summary}
-use Rattle.ring_records.specs.Floors.{floor_of, is_below_floor}
+use Rattle.ring_records.specs.FloorOf.{floor_of, is_below_floor}
 use Rattle.ring_records.specs.History.{floor, is_retired}
 use Rattle.ring_records.specs.Known.{known_of, leader_of, sends}
 use Rattle.ring_records.specs.Leader.{leader}

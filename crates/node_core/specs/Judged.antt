@@ -5,7 +5,7 @@ use Rattle.ring_records.specs.declared.limits.TheConstants.{STANDS}
 use Rattle.ring_records.specs.declared.msg.Msg.{Msg}
 use Rattle.ring_records.specs.declared.refusal.Refusal.{Refusal}
 use Rattle.ring_records.specs.declared.refusal.Refusal.TheVariants as refused
-use Rattle.ring_records.specs.Allowed.{where_so, already, stale, out_of_turn}
+use Rattle.ring_records.specs.Objection.{where_so, already, stale, out_of_turn}
 use Rattle.ring_records.specs.Leader.{term_of}
 use Rattle.ring_records.specs.Lists.{or_else}
 use Rattle.ring_records.specs.Message.{candidate_of}

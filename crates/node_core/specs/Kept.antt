@@ -10,7 +10,7 @@ use Rattle.ring_records.specs.declared.msg.Msg.{Msg}
 use Rattle.ring_records.specs.declared.room.Room.{Room}
 use Rattle.ring_records.specs.declared.summary.Summary.{Summary}
 use Rattle.ring_records.specs.Admission.{snapshot_len, newest}
-use Rattle.ring_records.specs.Floors.{is_below_floor}
+use Rattle.ring_records.specs.FloorOf.{is_below_floor}
 use Rattle.ring_records.specs.KeyOrder.{key_cmp}
 use Rattle.ring_records.specs.Leader.{term_of}
 use Rattle.ring_records.specs.Latest.{IsLatest}

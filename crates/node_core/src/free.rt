@@ -3,7 +3,7 @@ ghost use Rattle.std.specs.Prelude.{◌≡◌, ◌≤◌, ◌<◌, ◌^◌, ℕ,
 ghost use Rattle.std.specs.List.{sum_by};
 ghost use Rattle.std.specs.Option.{option_map};
 ghost use Rattle.ring_records.specs.Admission.{state_len};
-ghost use Rattle.ring_records.specs.Floors.{is_below_floor};
+ghost use Rattle.ring_records.specs.FloorOf.{is_below_floor};
 ghost use Rattle.ring_records.specs.Known.{Objects, drops, heard, stepped, known_of, leader_of, leads_in, passed, stood_of};
 ghost use Rattle.ring_records.specs.Latest.{IsLatest};
 ghost use Rattle.ring_records.specs.Message.{key_of};

@@ -5,9 +5,9 @@ use Rattle.std.proofs.lemmas.List.{take-append-drop, take-take, drop-drop, lengt
 use Rattle.ring_records.specs.declared.base.Base.{Base}
 use Rattle.ring_records.specs.declared.input.Input.{Input}
 use Rattle.ring_records.specs.declared.refusal.Refusal.{Refusal}
-use Rattle.ring_records.specs.Admission.{area_bytes, IsBaseOf}
+use Rattle.ring_records.specs.Admission.{area_bytes}
+use Rattle.ring_records.specs.Lawful.{IsBaseOf, IsAdmitted, IsLawful, IsNodeState, IsLawfulState}
 use Rattle.ring_records.specs.Allowed.{IsAllowed}
-use Rattle.ring_records.specs.Lawful.{IsAdmitted, IsLawful, IsNodeState, IsLawfulState}
 use Rattle.ring_records.specs.Known.{after}
 use Rattle.ring_records.specs.Lists.{EachAfter}
 use Rattle.ring_records.specs.Member.{Member}

@@ -6,11 +6,10 @@ use Rattle.std.proofs.Props.{props}
 use Rattle.disk_model.specs.declared.device.Device.{Ghosts}
 use Rattle.ring_records.specs.declared.base.Base.{Base}
 use Rattle.ring_records.specs.declared.input.Input.{Input}
-use Rattle.ring_records.specs.Admission.{IsBaseOf}
+use Rattle.ring_records.specs.Lawful.{IsBaseOf, IsLawfulState}
 use Rattle.ring_records.specs.Member.{Member}
 use Rattle.ring_records.specs.Props.{IsLawful-prop, IsNodeState-prop}
 use Rattle.ring_records.specs.States.{NodeState, launched_base, durable_in, flown_in}
-use Rattle.ring_records.specs.Lawful.{IsLawfulState}
 use Rattle.gated_journal.specs.declared.journal.Journal.{Journal}
 use Rattle.gated_journal.specs.Journal.{member_of, len_of, room_of, layout_of, epoch_of, is_spoiled}
 use Rattle.gated_journal.specs.Reading.{Reading}

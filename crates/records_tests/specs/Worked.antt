@@ -9,7 +9,7 @@ use Rattle.ring_records.specs.declared.msg.Msg.{Msg}
 use Rattle.ring_records.specs.declared.msg.Msg.TheVariants.{Token, Elected}
 use Rattle.ring_records.specs.declared.notice.Notice.{Notice}
 use Rattle.ring_records.specs.declared.notice.Notice.TheVariants.{Decided}
-use Rattle.ring_records.specs.Ring.{part}
+use Rattle.ring_records.specs.Part.{part}
 use Rattle.ring_records.specs.WorkedRetire.{red}
 use Rattle.ring_records.specs.WorkedRun.{red_5, winner, first_election}
 

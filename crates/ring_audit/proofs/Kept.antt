@@ -16,7 +16,8 @@ use Rattle.ring_records.specs.declared.msg.Msg.{Msg}
 use Rattle.ring_records.specs.declared.packet.Packet.{Packet}
 use Rattle.ring_records.specs.declared.packet.Packet.TheVariants.{Carry}
 use Rattle.ring_records.specs.declared.refusal.Refusal.{Refusal}
-use Rattle.ring_records.specs.Allowed.{IsAllowed, objection}
+use Rattle.ring_records.specs.Allowed.{IsAllowed}
+use Rattle.ring_records.specs.Objection.{objection}
 use Rattle.ring_records.specs.Emission.{emit, sent}
 use Rattle.ring_records.specs.Release.{carry}
 use Rattle.ring_records.proofs.Admission.{objection-allowed, allowed-free}

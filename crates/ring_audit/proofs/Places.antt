@@ -12,11 +12,13 @@ use Rattle.ring_records.specs.History.{taken}
 use Rattle.ring_records.specs.Allowed.{IsAllowed}
 use Rattle.ring_records.specs.Lists.{EachAfter}
 use Rattle.ring_records.specs.Place.{before, after}
-use Rattle.ring_records.specs.Ring.{part, IsCarried, MayFollow, IsLegal}
+use Rattle.ring_records.specs.Ring.{IsCarried, MayFollow, IsLegal}
+use Rattle.ring_records.specs.Part.{part}
 use Rattle.ring_records.proofs.Growth.{sent-kept, taken-kept, take-less}
 use Rattle.ring_records.proofs.Lists.{EachAfter-push}
 use Rattle.ring_records.proofs.Parts.{part-same, part-other, by_node}
-use Rattle.ring_audit.specs.Placement.{history_of, IsWhole, IsPlaced, IsPlacement}
+use Rattle.ring_audit.specs.Placement.{history_of, IsWhole}
+use Rattle.ring_audit.specs.Placed.{IsPlaced, IsPlacement}
 
 -- ---- the neighbours of a node are nodes
 

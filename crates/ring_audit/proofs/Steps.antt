@@ -16,14 +16,16 @@ use Rattle.ring_records.specs.History.{taken}
 use Rattle.ring_records.specs.Place.{before, after}
 use Rattle.ring_records.specs.Lists.{EachAfter}
 use Rattle.ring_records.specs.Allowed.{IsAllowed}
-use Rattle.ring_records.specs.Ring.{part as part_of, IsCarried, MayFollow, IsLegal}
+use Rattle.ring_records.specs.Ring.{IsCarried, MayFollow, IsLegal}
+use Rattle.ring_records.specs.Part.{part as part_of}
 use Rattle.ring_records.proofs.Growth.{slice_get-append, EachAfter-at}
 use Rattle.ring_records.proofs.Lists.{EachAfter-push}
 use Rattle.ring_records.proofs.Parts.{part-same, part-other, by_node}
 use Rattle.ring_audit.specs.declared.part.Part.{Part}
 use Rattle.ring_audit.specs.declared.placing.Placing.{Placing}
 use Rattle.ring_audit.specs.Part.{PartStandsFor}
-use Rattle.ring_audit.specs.Placement.{history_of, lists, IsPlaced, IsPlacement, IsNext}
+use Rattle.ring_audit.specs.Placement.{history_of, lists}
+use Rattle.ring_audit.specs.Placed.{IsPlaced, IsPlacement, IsNext}
 use Rattle.ring_audit.specs.Placing.{IsPart, IsPlacing}
 use Rattle.ring_audit.proofs.Places.{IsFront, done_placement}
 

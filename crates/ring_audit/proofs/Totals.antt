@@ -5,7 +5,8 @@ use Rattle.std.proofs.lemmas.Bool.{cases_eq}
 use Rattle.std.proofs.lemmas.List.{length-append}
 use Rattle.std.proofs.lemmas.List.Sums.{sum_by-cons}
 use Rattle.ring_records.specs.declared.input.Input.{Input}
-use Rattle.ring_records.specs.Ring.{part, MayFollow, IsLegal}
+use Rattle.ring_records.specs.Ring.{MayFollow, IsLegal}
+use Rattle.ring_records.specs.Part.{part}
 use Rattle.ring_records.proofs.Lists.{along}
 use Rattle.ring_records.proofs.Parts.{part-same, part-other}
 use Rattle.ring_audit.specs.Placement.{history_of, IsWhole}

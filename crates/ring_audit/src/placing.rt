@@ -2,9 +2,11 @@
 ghost use Rattle.std.specs.Prelude.{◌≡◌, ℕ, ◌+◌, ◌-◌, ◌≤◌, ◌<◌, ◌↔◌, length, slice_index_or, IfOk, IfSome, IfNone, OnOk, IsTrue, vec_len};
 ghost use Rattle.std.specs.List.{sum_by};
 ghost use Rattle.ring_records.specs.declared.input.Input.{Input};
-ghost use Rattle.ring_records.specs.Ring.{part as part_of, IsCarried};
+ghost use Rattle.ring_records.specs.Ring.{IsCarried};
+ghost use Rattle.ring_records.specs.Part.{part as part_of};
 ghost use Rattle.ring_audit.specs.Part.{PartStandsFor};
-ghost use Rattle.ring_audit.specs.Placement.{history_of, lists, IsPlacement, IsNext};
+ghost use Rattle.ring_audit.specs.Placement.{history_of, lists};
+ghost use Rattle.ring_audit.specs.Placed.{IsPlacement, IsNext};
 ghost use Rattle.ring_audit.specs.Placing.{IsPlacing, left};
 
 use crate::part::Part;

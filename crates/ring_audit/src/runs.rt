@@ -1,7 +1,8 @@
 // Whether histories can be told as one run.
 ghost use Rattle.std.specs.Prelude.{◌≡◌, IfOk, IfErr};
 ghost use Rattle.ring_audit.specs.declared.runs.AuditFault.TheVariants.{Memory};
-ghost use Rattle.ring_audit.specs.Audits.{HasShape, Explains};
+ghost use Rattle.ring_audit.specs.Audits.{HasShape};
+ghost use Rattle.ring_audit.specs.Explained.{Explains};
 ghost use Rattle.ring_audit.specs.Placement.{lists, IsWhole};
 
 use crate::placing::Placing;

@@ -13,10 +13,12 @@ use Rattle.ring_records.specs.declared.msg.Msg.TheVariants.{Token, Elected}
 use Rattle.ring_records.specs.declared.packet.Packet.TheVariants.{Carry}
 use Rattle.ring_records.specs.declared.refusal.Refusal.TheVariants as refused
 use Rattle.ring_records.specs.declared.summary.Summary.{Summary}
-use Rattle.ring_records.specs.Allowed.{IsAllowed, where_so, retired, already, is_touched, stale, out_of_turn, too_many, objection}
+use Rattle.ring_records.specs.Allowed.{IsAllowed}
+use Rattle.ring_records.specs.Objection.{where_so, retired, already, is_touched, stale, out_of_turn, too_many, objection}
 use Rattle.ring_records.specs.Emission.{passed_on, emit}
-use Rattle.ring_records.specs.Release.{carry, credit_where, packets, carries, credits, decisions, numbered, window}
-use Rattle.ring_records.specs.Floors.{floor_of}
+use Rattle.ring_records.specs.Release.{carry, credit_where, packets, carries, credits, numbered, window}
+use Rattle.ring_records.specs.Decisions.{decisions}
+use Rattle.ring_records.specs.FloorOf.{floor_of}
 use Rattle.ring_records.specs.History.{floor_for, floor, is_retired, if_live, is_named, touched, first_stand, stood, taken}
 use Rattle.ring_records.specs.KeyOrder.{group_cmp}
 use Rattle.ring_records.specs.Known.{stepped}

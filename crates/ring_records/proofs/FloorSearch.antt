@@ -16,7 +16,7 @@ use Rattle.std.proofs.lemmas.Option.{same_Some}
 use Rattle.std.proofs.lemmas.Slice.Eq.{bytes_eq-Decides}
 use Rattle.ring_records.specs.declared.key.Key.{Key}
 use Rattle.ring_records.specs.declared.key_state.KeyState.{KeyState}
-use Rattle.ring_records.specs.Floors.{is_below_floor}
+use Rattle.ring_records.specs.FloorOf.{is_below_floor}
 use Rattle.ring_records.specs.FloorLists.{by_group, under_group, floored}
 use Rattle.ring_records.specs.KeyOrder.{group_cmp, key_cmp}
 use Rattle.ring_records.specs.SnapshotRead.{IsLiveState}

@@ -7,7 +7,7 @@ use Rattle.std.proofs.lemmas.List.Sums.{sum_by-append, sum_by-take-drop}
 use Rattle.ring_records.specs.declared.base.Base.{Base}
 use Rattle.ring_records.specs.declared.input.Input.{Input}
 use Rattle.ring_records.specs.Admission.{newest, cost, costs_of, used, snapshot_len, room_of, must_renew, lacks, no_area, no_room, shortage}
-use Rattle.ring_records.specs.Allowed.{where_so}
+use Rattle.ring_records.specs.Objection.{where_so}
 use Rattle.ring_records.specs.declared.refusal.Refusal.TheVariants.{Full}
 use Rattle.std.proofs.lemmas.Bool.{le-leb}
 use Rattle.ring_records.specs.Summary.{summary}

@@ -15,10 +15,11 @@ use Rattle.ring_records.specs.declared.msg.Msg.TheVariants.{Token, Elected}
 use Rattle.ring_records.specs.declared.refusal.Refusal.{Refusal}
 use Rattle.ring_records.specs.declared.refusal.Refusal.TheVariants as refused
 use Rattle.ring_records.specs.Admission.{is_retire}
-use Rattle.ring_records.specs.Allowed.{IsInTurn, IsAllowed, where_so, retired, already, is_touched, stale, too_many, objection}
+use Rattle.ring_records.specs.Allowed.{IsInTurn, IsAllowed}
+use Rattle.ring_records.specs.Objection.{where_so, retired, already, is_touched, stale, too_many, objection}
 use Rattle.ring_records.specs.Emission.{passed_on, emit, sent}
 use Rattle.ring_records.specs.History.{floor_for, floor, is_retired, if_live, names, is_named, touched, bid_for, first_stand, stood, message_of, taken, upto_of, credit, is_live_stand, stands}
-use Rattle.ring_records.specs.Floors.{is_below_floor}
+use Rattle.ring_records.specs.FloorOf.{is_below_floor}
 use Rattle.ring_records.specs.Known.{passed, shown, stood_of, leader_of, known_of, leads_in, retired_in, sends, heard, stepped, Objects}
 use Rattle.ring_records.specs.Leader.{is_bid, makes_leader, first_leader, leader, latest, term_of}
 use Rattle.ring_records.specs.Lists.{or_else, EachAfter}

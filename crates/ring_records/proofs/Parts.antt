@@ -13,7 +13,8 @@ use Rattle.ring_records.specs.History.{message_of, taken}
 use Rattle.ring_records.specs.Lists.{EachAfter, found_after}
 use Rattle.ring_records.specs.Message.{candidate_of}
 use Rattle.ring_records.specs.Place.{before}
-use Rattle.ring_records.specs.Ring.{item_at, part, IsCarried, MayFollow, IsLegal}
+use Rattle.ring_records.specs.Ring.{IsCarried, MayFollow, IsLegal}
+use Rattle.ring_records.specs.Part.{item_at, part}
 use Rattle.ring_records.proofs.Emission.{emit-candidate}
 use Rattle.ring_records.proofs.History.{taken-push, sent-push}
 use Rattle.ring_records.proofs.Lists.{along, none≢some, EachAfter-push, Contains-option_cases, Contains-option_kept, Contains-slice_get}

@@ -11,7 +11,8 @@ use Rattle.ring_records.specs.declared.msg.Msg.{Msg}
 use Rattle.ring_records.specs.declared.msg.Msg.TheVariants.{Token, Elected}
 use Rattle.ring_records.specs.declared.record.RecordFault.{RecordFault}
 use Rattle.ring_records.specs.declared.record.RecordFault.TheVariants.{Kind, Number}
-use Rattle.ring_records.specs.Record.{AreBytes, key_bytes, candidate_bytes, IsKeyInRange}
+use Rattle.ring_records.specs.Record.{key_bytes, candidate_bytes, IsKeyInRange}
+use Rattle.ring_records.specs.RecordLists.{AreBytes}
 use Rattle.ring_records.specs.RecordReading.{◌>>=◌, byte_at, key_at, bid_at, candidate_at}
 use Rattle.ring_records.specs.Snapshot.{flags, bid_bytes, leader_bytes, state_bytes, msg_bytes, IsCandidateOf, IsStateOf, IsMessageOf}
 use Rattle.ring_records.specs.SnapshotRead.{candidate_in, state_behind, state_at, named_at, token_of, elected_of, msg_behind, msg_at, items_at}

@@ -14,7 +14,8 @@ use Rattle.ring_records.specs.declared.summary.Summary.{Summary}
 use Rattle.ring_records.specs.Floors.{floor_keys}
 use Rattle.ring_records.specs.Snapshot.{state_bytes, msg_bytes, IsMessageOf, Spells}
 use Rattle.ring_records.specs.Summary.{empty}
-use Rattle.ring_records.specs.Record.{AreBytes, key_bytes, IsKeyInRange}
+use Rattle.ring_records.specs.Record.{key_bytes, IsKeyInRange}
+use Rattle.ring_records.specs.RecordLists.{AreBytes}
 use Rattle.ring_records.specs.RecordReading.{number_at, key_at}
 use Rattle.ring_records.specs.SnapshotPart.{SnapshotPart, number_bytes, parts_bytes, floors_taken, taken_of, is_floor_left, AreCounts, IsOwnStateOf, Parts, IsWindowRead, HasFloors, AreRead, IsReading, TakesCounts, NoCounts, TakesState, NoState, TakesMessage, NoMessage, TakesEnd, NoEnd, TakesFloor, NoFloor, TakesPart, NoPart, IsSoundPart}
 use Rattle.ring_records.specs.SnapshotRead.{state_at, msg_at, counts_at, AreFitting}

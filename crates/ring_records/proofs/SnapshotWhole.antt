@@ -16,11 +16,13 @@ use Rattle.ring_records.specs.declared.refusal.Refusal.{Refusal}
 use Rattle.ring_records.specs.declared.refusal.Refusal.TheVariants as refused
 use Rattle.ring_records.specs.declared.snapshot_read.Counts.{Counts}
 use Rattle.ring_records.specs.declared.summary.Summary.{Summary}
-use Rattle.ring_records.specs.Floors.{floor_keys, IsLive}
+use Rattle.ring_records.specs.Floors.{floor_keys}
+use Rattle.ring_records.specs.FloorOf.{IsLive}
 use Rattle.ring_records.specs.FloorLists.{floored}
 use Rattle.ring_records.specs.KeyOrder.{key_cmp, group_cmp}
 use Rattle.ring_records.specs.KeyStates.{under_key, keyed}
-use Rattle.ring_records.specs.Record.{AreBytes, key_bytes, IsKeyInRange}
+use Rattle.ring_records.specs.Record.{key_bytes, IsKeyInRange}
+use Rattle.ring_records.specs.RecordLists.{AreBytes}
 use Rattle.ring_records.specs.RecordReading.{number_at, key_at}
 use Rattle.ring_records.specs.Snapshot.{state_bytes, msg_bytes, counts_bytes, floors_bytes, snapshot_of, has_stood, IsStateOf, IsMessageOf, IsSound, Spells}
 use Rattle.ring_records.specs.Summary.{empty}

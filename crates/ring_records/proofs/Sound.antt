@@ -20,9 +20,10 @@ use Rattle.ring_records.specs.declared.msg.Msg.{Msg}
 use Rattle.ring_records.specs.declared.msg.Msg.TheVariants.{Token, Elected}
 use Rattle.ring_records.specs.declared.refusal.Refusal.TheVariants as refused
 use Rattle.ring_records.specs.declared.summary.Summary.{Summary}
-use Rattle.ring_records.specs.Allowed.{IsAllowed, where_so, already, stale, out_of_turn}
+use Rattle.ring_records.specs.Allowed.{IsAllowed}
+use Rattle.ring_records.specs.Objection.{where_so, already, stale, out_of_turn}
 use Rattle.ring_records.specs.Emission.{is_below, sent}
-use Rattle.ring_records.specs.Floors.{floor_of, is_below_floor, IsLive}
+use Rattle.ring_records.specs.FloorOf.{floor_of, is_below_floor, IsLive}
 use Rattle.ring_records.specs.History.{taken, credit, stands}
 use Rattle.ring_records.specs.Known.{passed, shown, stood_of, leader_of, known_of, retired_in, sends, heard, drops, stepped, Objects}
 use Rattle.ring_records.specs.KeyOrder.{key_cmp, group_cmp}

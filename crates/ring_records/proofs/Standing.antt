@@ -8,7 +8,7 @@ use Rattle.ring_records.specs.declared.key.Key.{Key}
 use Rattle.ring_records.specs.declared.key_state.KeyState.{KeyState}
 use Rattle.ring_records.specs.declared.msg.Msg.{Msg}
 use Rattle.ring_records.specs.declared.summary.Summary.{Summary}
-use Rattle.ring_records.specs.Floors.{is_below_floor}
+use Rattle.ring_records.specs.FloorOf.{is_below_floor}
 use Rattle.ring_records.specs.Known.{stood_of, leader_of, known_of, heard, stepped}
 use Rattle.ring_records.specs.Message.{key_of}
 use Rattle.ring_records.specs.Snapshot.{has_stood}

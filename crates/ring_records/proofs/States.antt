@@ -7,10 +7,10 @@ use Rattle.ring_records.specs.declared.base.Base.{Base}
 use Rattle.ring_records.specs.declared.input.Input.{Input}
 use Rattle.ring_records.specs.declared.refusal.Refusal.{Refusal}
 use Rattle.ring_records.specs.declared.request.Request.{Request}
-use Rattle.ring_records.specs.Admission.{base_of, fresh, newest, refusal, IsBaseOf}
-use Rattle.ring_records.specs.Lawful.{Fits, IsAdmitted, IsLawful, IsNodeState, IsLawfulState}
+use Rattle.ring_records.specs.Admission.{base_of, fresh, newest}
+use Rattle.ring_records.specs.Lawful.{IsBaseOf, Fits, IsAdmitted, IsLawful, IsNodeState, IsLawfulState}
+use Rattle.ring_records.specs.Answering.{refusal, if_input, gained}
 use Rattle.ring_records.specs.Answer.{input_of, if_free}
-use Rattle.ring_records.specs.Answering.{if_input, gained}
 use Rattle.ring_records.specs.Answer as by_rule
 use Rattle.ring_records.specs.Lists.{EachAfter}
 use Rattle.ring_records.specs.Member.{Member}

@@ -18,7 +18,7 @@ use Rattle.ring_records.specs.declared.key.Key.{Key}
 use Rattle.ring_records.specs.declared.key_state.KeyState.{KeyState}
 use Rattle.ring_records.specs.declared.summary.Summary.{Summary}
 use Rattle.ring_records.specs.Emission.{sent}
-use Rattle.ring_records.specs.Floors.{floor_of}
+use Rattle.ring_records.specs.FloorOf.{floor_of}
 use Rattle.ring_records.specs.History.{floor_for, floor, is_retired, names, is_named, touched, first_stand, stood, taken, credit, stands}
 use Rattle.ring_records.specs.KeyOrder.{group_cmp}
 use Rattle.ring_records.specs.KeyStates.{under_key}

@@ -7,9 +7,10 @@ use Rattle.ring_records.specs.declared.msg.Msg.TheVariants.{Token, Elected}
 use Rattle.ring_records.specs.declared.refusal.Refusal.TheVariants as refused
 use Rattle.ring_records.specs.declared.reply.Reply.TheVariants as say
 use Rattle.ring_records.specs.declared.request.Request.TheVariants as ask
-use Rattle.ring_records.specs.Admission.{fresh, cost, used, shortage, refusal}
-use Rattle.ring_records.specs.Allowed.{IsInTurn, retired, already, is_touched, stale, too_many, objection}
-use Rattle.ring_records.specs.Answering.{reply}
+use Rattle.ring_records.specs.Admission.{fresh, cost, used, shortage}
+use Rattle.ring_records.specs.Answering.{refusal, reply}
+use Rattle.ring_records.specs.Allowed.{IsInTurn}
+use Rattle.ring_records.specs.Objection.{retired, already, is_touched, stale, too_many, objection}
 use Rattle.ring_records.specs.Answer as by_rule
 use Rattle.ring_records.specs.Emission.{passed_on, is_below, emit, sent}
 use Rattle.ring_records.specs.History.{floor_for, floor, is_retired, names, is_named, touched, bid_for, first_stand, stood, message_of, taken, is_live_stand, stands}
@@ -17,7 +18,8 @@ use Rattle.ring_records.specs.Leader.{is_bid, makes_leader, first_leader, leader
 use Rattle.ring_records.specs.Lists.{first, found_after, EachAfter}
 use Rattle.ring_records.specs.Order.{is_less, is_key}
 use Rattle.ring_records.specs.Place.{before, after}
-use Rattle.ring_records.specs.Ring.{item_at, part, IsCarried, IsLegal}
+use Rattle.ring_records.specs.Ring.{IsCarried, IsLegal}
+use Rattle.ring_records.specs.Part.{item_at, part}
 use Rattle.ring_records.proofs.Admission.{objection-allowed}
 use Rattle.ring_records.specs.WorkedRetire.{red, alone, retired_relay}
 

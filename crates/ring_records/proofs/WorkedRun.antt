@@ -8,7 +8,8 @@ use Rattle.ring_records.specs.Leader.{is_bid, makes_leader, first_leader, leader
 use Rattle.ring_records.specs.Lists.{first, found_after, EachAfter}
 use Rattle.ring_records.specs.Order.{is_less, is_key}
 use Rattle.ring_records.specs.Place.{before, after}
-use Rattle.ring_records.specs.Ring.{item_at, part, IsCarried, IsLegal}
+use Rattle.ring_records.specs.Ring.{IsCarried, IsLegal}
+use Rattle.ring_records.specs.Part.{item_at, part}
 use Rattle.ring_records.specs.WorkedRun.{red_5, winner, first_election}
 
 pub leads_at_1 : leader 1 (part first_election 1) red_5 ≡ Some winner

@@ -8,6 +8,7 @@ use Rattle.ring_records.specs.declared.request.Request.{Request}
 use Rattle.ring_records.specs.Admission.{shortage}
 use Rattle.ring_records.specs.Answer.{Answer, Answered}
 use Rattle.ring_records.specs.Answer as by_rule
+use Rattle.ring_records.specs.declared.refusal.Refusal.{Refusal}
 
 abbrev pub if_input : ℕ → ℕ → ℕ → Base → List Input → Option Input → List Input
 if_input me n capacity base h o = by_rule.if_input me n (shortage me capacity base) h o
@@ -30,3 +31,7 @@ answered me n capacity base h q = by_rule.answered me n (shortage me capacity ba
 -- at some point of h the answer was given, with room counted from this base
 abbrev pub Answers : ℕ → ℕ → ℕ → Base → List Input → Request → Answer → Type 0
 Answers me n capacity base h q a = by_rule.Answers me n (shortage me capacity base) h q a
+
+-- why the input is refused, where this is the rule of room
+abbrev pub refusal : ℕ → ℕ → ℕ → Base → List Input → Input → Option Refusal
+refusal me n capacity base h x = by_rule.refusal me n (shortage me capacity base) h x

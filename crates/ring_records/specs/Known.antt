@@ -15,9 +15,9 @@ use Rattle.ring_records.specs.declared.msg.Msg.TheVariants.{Token, Elected}
 use Rattle.ring_records.specs.declared.refusal.Refusal.{Refusal}
 use Rattle.ring_records.specs.declared.refusal.Refusal.TheVariants as refused
 use Rattle.ring_records.specs.declared.summary.Summary.{Summary}
-use Rattle.ring_records.specs.Allowed.{where_so, already, stale, out_of_turn}
+use Rattle.ring_records.specs.Objection.{where_so, already, stale, out_of_turn}
 use Rattle.ring_records.specs.Emission.{is_below}
-use Rattle.ring_records.specs.Floors.{floor_of, is_below_floor}
+use Rattle.ring_records.specs.FloorOf.{floor_of, is_below_floor}
 use Rattle.ring_records.specs.Leader.{is_bid, term_of}
 use Rattle.ring_records.specs.Latest.{IsLatest}
 use Rattle.ring_records.specs.Lists.{or_else}

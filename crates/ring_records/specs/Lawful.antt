@@ -1,14 +1,23 @@
 -- Which histories are lawful: each input was admitted after those before it, with room counted from what an area stands for.
-use Rattle.std.specs.Prelude.{ℕ, true, false, ◌≡◌, ◌+◌, ◌<◌, ◌≤◌, List, [], ◌∷◌, ◌++◌, length, Some}
+use Rattle.std.specs.Prelude.{ℕ, true, false, ◌≡◌, ◌+◌, ◌<◌, ◌≤◌, List, [], ◌∷◌, ◌++◌, length, Some, take}
 use Rattle.ring_records.specs.declared.base.Base.{Base}
 use Rattle.ring_records.specs.declared.input.Input.{Input}
 use Rattle.ring_records.specs.declared.room.Room.{Room}
 use Rattle.ring_records.specs.Lists.{EachAfter}
 use Rattle.ring_records.specs.Summary.{summary}
-use Rattle.ring_records.specs.Admission.{snapshot_len, newest, epochs, cost, room_of, must_renew, IsBaseOf}
+use Rattle.ring_records.specs.Admission.{snapshot_len, newest, epochs, cost, room_of, must_renew, base_of, fresh, used}
 use Rattle.ring_records.specs.Allowed.{IsAllowed}
 use Rattle.ring_records.specs.Member.{Member}
 use Rattle.ring_records.specs.States.{NodeState, launched_base, durable_in, flown_in}
+
+-- the first inputs of h are those that the base stands for
+pub record IsBaseOf (me : ℕ) (base : Base) (h : List Input) : Type 0 where
+  pub within : base.inputs ≤ length h
+  pub is : base ≡ base_of base.layout base.epoch (summary me (take base.inputs h))
+
+-- those that h takes while none of its inputs is summarised
+abbrev pub used_by : List Input → ℕ
+used_by h = used fresh h
 
 -- the input fits, behind which a snapshot has so many bytes
 pub record HasRoom (capacity : ℕ) (room : Room) (x : Input) (renewed : ℕ) : Type 0 where

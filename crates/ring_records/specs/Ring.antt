@@ -1,20 +1,13 @@
 -- Runs of a ring of n nodes.
-use Rattle.std.specs.Prelude.{ℕ, ◌≡◌, ◌==◌, ◌≤◌, if◌then◌else◌, List, [], length, Option, Some, None, slice_get}
-use Rattle.std.specs.List.{filter_map}
+use Rattle.std.specs.Prelude.{ℕ, ◌≡◌, ◌≤◌, List, [], length, Some, slice_get}
 use Rattle.ring_records.specs.declared.input.Input.{Input}
 use Rattle.ring_records.specs.declared.input.Input.TheVariants.{Stand, Take, Acked, Retire}
 use Rattle.ring_records.specs.Allowed.{IsAllowed}
 use Rattle.ring_records.specs.Emission.{sent}
 use Rattle.ring_records.specs.History.{taken}
 use Rattle.ring_records.specs.Lists.{EachAfter}
+use Rattle.ring_records.specs.Part.{part}
 use Rattle.ring_records.specs.Place.{before, after}
-
-unfoldable pub item_at : {A : Type 0} → ℕ → ℕ × A → Option A
-item_at i step = if step.0 == i then Some step.1 else None
-
--- what belongs to node i, as its inputs in a run
-unfoldable pub part : {A : Type 0} → List (ℕ × A) → ℕ → List A
-part run i = filter_map (item_at i) run
 
 -- a message that is taken was sent by the node before, and the node after took as many as are credited
 unfoldable pub IsCarried : ℕ → List (ℕ × Input) → ℕ → Input → Type 0

@@ -4,9 +4,8 @@ use Rattle.ring_records.specs.declared.base.Base.{Base}
 use Rattle.ring_records.specs.declared.input.Input.{Input}
 use Rattle.ring_records.specs.declared.request.Request.{Request}
 use Rattle.ring_records.specs.declared.shown.Shown.{Shown}
-use Rattle.ring_records.specs.Admission.{base_of, newest}
-use Rattle.ring_records.specs.Answer.{Answered}
-use Rattle.ring_records.specs.Answering.{gained, answered}
+use Rattle.ring_records.specs.Admission.{base_of, newest, shortage}
+use Rattle.ring_records.specs.Answer.{Answered, gained, answered}
 use Rattle.ring_records.specs.Emission.{sent}
 use Rattle.ring_records.specs.History.{taken, credit}
 use Rattle.ring_records.specs.Member.{Member}
@@ -19,11 +18,11 @@ shown_in me s = record { inputs = length s.inputs; durable = s.durable; sent = l
 
 -- the inputs, one or none, that it gains by a request
 abbrev pub gained_by : Member → NodeState → Request → List Input
-gained_by m s q = gained m.node m.n m.capacity (launched_base s) s.inputs q
+gained_by m s q = gained m.node m.n (shortage m.node m.capacity (launched_base s)) s.inputs q
 
 -- the request with its answer
 abbrev pub answered_by : Member → NodeState → Request → Answered
-answered_by m s q = answered m.node m.n m.capacity (launched_base s) s.inputs q
+answered_by m s q = answered m.node m.n (shortage m.node m.capacity (launched_base s)) s.inputs q
 
 -- it accepts what a request asks
 abbrev pub asked : Member → NodeState → Request → NodeState

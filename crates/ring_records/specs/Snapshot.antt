@@ -10,7 +10,8 @@ use Rattle.ring_records.specs.declared.msg.Msg.{Msg}
 use Rattle.ring_records.specs.declared.summary.Summary.{Summary}
 pub use Rattle.ring_records.specs.Admission.{snapshot_len}
 use Rattle.ring_records.specs.Admission.{has_floors}
-use Rattle.ring_records.specs.Floors.{floor_keys, IsLive}
+use Rattle.ring_records.specs.Floors.{floor_keys}
+use Rattle.ring_records.specs.FloorOf.{IsLive}
 use Rattle.ring_records.specs.Message.{key_of, candidate_of}
 use Rattle.ring_records.specs.Record.{key_bytes, candidate_bytes, take_kind, IsKeyInRange, IsCandidateInRange}
 use Rattle.ring_records.specs.Summary.{empty}

@@ -15,7 +15,7 @@ use Rattle.ring_records.specs.declared.refusal.Refusal.{Refusal}
 use Rattle.ring_records.specs.declared.refusal.Refusal.TheVariants as refused
 use Rattle.ring_records.specs.declared.snapshot_read.Counts.{Counts}
 use Rattle.ring_records.specs.Admission.{has_floors}
-use Rattle.ring_records.specs.Floors.{IsLive}
+use Rattle.ring_records.specs.FloorOf.{IsLive}
 use Rattle.ring_records.specs.FloorLists.{by_group, floored}
 use Rattle.ring_records.specs.KeyOrder.{group_cmp}
 use Rattle.ring_records.specs.KeyStates.{by_state}

@@ -18,7 +18,7 @@ use Rattle.ring_records.specs.declared.refusal.Refusal.{Refusal}
 use Rattle.ring_records.specs.declared.reply.Reply.{Reply}
 use Rattle.ring_records.specs.declared.reply.Reply.TheVariants as replied
 use Rattle.ring_records.specs.declared.request.Request.{Request}
-use Rattle.ring_records.specs.Allowed.{retired}
+use Rattle.ring_records.specs.Objection.{retired}
 use Rattle.ring_records.specs.Answer.{Answer, unless}
 use Rattle.ring_records.specs.Answering.{reply}
 use Rattle.ring_records.specs.Answer as by_rule

@@ -5,8 +5,9 @@ use Rattle.ring_records.specs.declared.input.Input.{Input}
 use Rattle.ring_records.specs.declared.key.Key.{Key}
 use Rattle.ring_records.specs.declared.notice.Notice.{Notice}
 use Rattle.ring_records.specs.declared.notice.Notice.TheVariants as tells
-use Rattle.ring_audit.specs.Audits.{HasNoRun}
-use Rattle.ring_audit.specs.Placement.{IsStuck, IsWhole}
+use Rattle.ring_audit.specs.Explained.{HasNoRun}
+use Rattle.ring_audit.specs.Placement.{IsWhole}
+use Rattle.ring_audit.specs.Placed.{IsStuck}
 use Rattle.group_commit.specs.Desk.{DeskKept}
 use Rattle.ring_start.specs.declared.check.Verdict.{Verdict}
 use Rattle.ring_start.specs.declared.check.Verdict.TheVariants as says

@@ -7,7 +7,8 @@ use Rattle.ring_records.specs.declared.input.Input.TheVariants.{Stand}
 use Rattle.ring_records.specs.declared.key.Key.{Key}
 use Rattle.ring_records.specs.Leader.{first_leader}
 use Rattle.ring_records.specs.Order.{is_less}
-use Rattle.ring_records.specs.Ring.{part, IsLegal}
+use Rattle.ring_records.specs.Ring.{IsLegal}
+use Rattle.ring_records.specs.Part.{part}
 use Rattle.ring_records.proofs.Growth.{first_leader-kept}
 use Rattle.ring_records.proofs.History.{leader-shown}
 use Rattle.ring_records.proofs.OneKey.{allowed_facts}

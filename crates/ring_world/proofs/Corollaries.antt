@@ -10,7 +10,8 @@ use Rattle.ring_records.specs.Fitting.{RingFits}
 use Rattle.ring_records.specs.Lawful.{IsNodeState}
 use Rattle.ring_records.specs.Leader.{leader}
 use Rattle.ring_records.specs.Order.{is_less}
-use Rattle.ring_records.specs.Ring.{part, IsLegal}
+use Rattle.ring_records.specs.Ring.{IsLegal}
+use Rattle.ring_records.specs.Part.{part}
 use Rattle.ring_records.specs.States.{NodeState, durable_in}
 use Rattle.ring_records.proofs.Growth.{EachAfter-front, EachAfter-at}
 use Rattle.ring_records.proofs.History.{leader-shown}
@@ -18,7 +19,8 @@ use Rattle.ring_world.specs.Based.{Rests, IsKept}
 use Rattle.ring_world.specs.Capacity.{within, process, state_after, committed}
 use Rattle.ring_world.specs.Events.{Thing, Replied, Sent, Shown, Action, Release}
 use Rattle.ring_world.specs.Released.{IsAnnounced}
-use Rattle.ring_world.specs.Schedule.{IsReleasable, MayHappen, IsSchedule}
+use Rattle.ring_world.specs.Schedule.{IsSchedule}
+use Rattle.ring_world.specs.Acts.{IsReleasable, MayHappen}
 use Rattle.ring_world.specs.Schedules as lawful
 use Rattle.ring_world.proofs.Chain.{IsShown, shown_by, agree}
 use Rattle.ring_world.proofs.Credits.{link_fits}

@@ -15,7 +15,8 @@ use Rattle.ring_records.specs.Emission.{sent}
 use Rattle.ring_records.specs.Fitting.{LinkFits}
 use Rattle.ring_records.specs.History.{upto_of, message_of, taken, credit}
 use Rattle.ring_records.specs.Place.{after, before}
-use Rattle.ring_records.specs.Ring.{part, IsCarried}
+use Rattle.ring_records.specs.Ring.{IsCarried}
+use Rattle.ring_records.specs.Part.{part}
 use Rattle.ring_records.specs.States.{NodeState, launched_base, durable_in}
 use Rattle.ring_records.proofs.Growth.{slice_get-push}
 use Rattle.ring_records.proofs.History.{taken-push}

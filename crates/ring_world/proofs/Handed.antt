@@ -18,10 +18,10 @@ use Rattle.ring_records.specs.Place.{after, before}
 use Rattle.ring_records.specs.States.{durable_in}
 use Rattle.ring_records.proofs.Keys.{is_key-true, is_key-same}
 use Rattle.ring_world.specs.Events.{Sent, Action, Release, Process}
-use Rattle.ring_world.specs.Capacity.{process}
-use Rattle.ring_world.specs.Schedule.{IsReleasable, IsSchedule}
+use Rattle.ring_world.specs.Capacity.{process, all_fresh}
+use Rattle.ring_world.specs.Schedule.{IsSchedule}
+use Rattle.ring_world.specs.Acts.{IsReleasable}
 use Rattle.ring_world.specs.Schedules.{Rests, IsDelivered}
-use Rattle.ring_world.specs.Start.{all_fresh}
 use Rattle.ring_world.specs.Schedules as scheduled
 use Rattle.ring_world.proofs.Moves.{Stays, release_one, release_none}
 

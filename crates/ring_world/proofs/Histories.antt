@@ -7,19 +7,19 @@ use Rattle.ring_records.specs.declared.base.Base.{Base}
 use Rattle.ring_records.specs.declared.input.Input.{Input}
 use Rattle.ring_records.specs.Ring.{IsLegal}
 use Rattle.ring_records.specs.declared.refusal.Refusal.TheVariants.{Dropped, Failed}
-use Rattle.ring_records.specs.Allowed.{where_so}
+use Rattle.ring_records.specs.Objection.{where_so}
 use Rattle.ring_records.specs.Lists.{or_else}
 use Rattle.ring_records.specs.States.{durable_in}
 use Rattle.ring_records.proofs.Admission.{where_so-none}
 use Rattle.ring_audit.specs.Audits.{HasShape}
 use Rattle.ring_audit.specs.Placement.{history_of, IsWhole}
-use Rattle.ring_world.specs.Capacity.{committed, process, state_after}
+use Rattle.ring_world.specs.Capacity.{committed, process, state_after, all_fresh}
 use Rattle.ring_world.specs.Events.{Action}
 use Rattle.ring_world.specs.Schedule.{IsSchedule}
 use Rattle.ring_world.specs.Dropped.{dropped_at, first_dropped, withheld}
 use Rattle.ring_world.specs.Histories.{histories}
-use Rattle.ring_world.specs.Start.{all_fresh}
-use Rattle.ring_world.specs.State.{State, IsWorld}
+use Rattle.ring_world.specs.State.{State}
+use Rattle.ring_world.specs.Worlds.{IsWorld}
 use Rattle.ring_world.proofs.Lowest.{lowest_none}
 use Rattle.ring_world.proofs.Corollaries.{committed_legal, committed_parts}
 

@@ -12,11 +12,13 @@ use Rattle.ring_node.specs.declared.flight.Flight.TheVariants as flights
 use Rattle.ring_world.specs.Counts.{IsBounded}
 use Rattle.ring_world.specs.Schedule.{IsSchedule}
 use Rattle.ring_world.specs.Rest.{IsAllDurable}
-use Rattle.ring_world.specs.Ring.{RingView, IsSameRing, node_at, is_launched, carried, round, brought, crashed, stopped, swept}
-use Rattle.ring_world.specs.Start.{all_fresh}
-use Rattle.ring_world.specs.State.{State, IsLeft, IsWorld, opened}
+use Rattle.ring_world.specs.Ring.{RingView, node_at, is_launched, carried, round, brought, crashed, stopped, swept}
+use Rattle.ring_world.specs.Left.{IsSameRing, IsLeft}
+use Rattle.ring_world.specs.Capacity.{all_fresh}
+use Rattle.ring_world.specs.State.{State, opened}
+use Rattle.ring_world.specs.Worlds.{IsWorld, is_lasting}
 use Rattle.ring_world.specs.declared.outcome.Outcome.{Outcome}
-use Rattle.ring_world.specs.Step.{Told, Steps, told, all_told, refusal_of, is_lasting, stepped, submitted, flushed, put, delivered_all}
+use Rattle.ring_world.specs.Step.{Told, Steps, told, all_told, refusal_of, stepped, submitted, flushed, put, delivered_all}
 use Rattle.ring_world.specs.Step as step
 use Rattle.ring_world.specs.declared.event.Event.{Event}
 use Rattle.ring_world.specs.declared.event.Event.TheVariants.{Submit, Flush, Deliver, DeliverAll, Credit, Crash, Stop, Checkpoint, StopCheckpoint}

@@ -7,8 +7,8 @@ use Rattle.std.proofs.lemmas.List.Elements.{Contains-push_cases}
 use Rattle.ring_records.specs.declared.base.Base.{Base}
 use Rattle.ring_records.specs.declared.input.Input.{Input}
 use Rattle.ring_records.specs.declared.request.Request.{Request}
-use Rattle.ring_records.specs.Admission.{base_of, IsBaseOf}
-use Rattle.ring_records.specs.Lawful.{IsLawful, IsLawfulState}
+use Rattle.ring_records.specs.Admission.{base_of}
+use Rattle.ring_records.specs.Lawful.{IsBaseOf, IsLawful, IsLawfulState}
 use Rattle.ring_records.specs.Answer.{Answered}
 use Rattle.ring_records.specs.Answering.{gained, answer, answered}
 use Rattle.ring_records.specs.Lists.{EachAfter}
@@ -21,12 +21,12 @@ use Rattle.ring_records.proofs.Leader.{Contains-nil}
 use Rattle.ring_records.proofs.Sound.{summary-none}
 use Rattle.ring_records.proofs.States.{lawful-opened, lawful-asked, lawful-rebased, lawful-launched, lawful-launched_all, lawful-landed, lawful-left}
 use Rattle.ring_world.specs.Based.{WasAnswered, Rests, RestsOn}
-use Rattle.ring_world.specs.Capacity.{launched_in, act}
+use Rattle.ring_world.specs.Capacity.{all_fresh}
+use Rattle.ring_world.specs.Acts.{launched_in, act, May}
 use Rattle.ring_world.specs.Events.{Thing, Replied, Action, Submit, Launch, LaunchAll, Land, Release, Crash, Process, started}
 use Rattle.ring_world.specs.Events as happening
-use Rattle.ring_world.specs.Schedule.{May}
 use Rattle.ring_world.specs.Schedules as scheduled
-use Rattle.ring_world.specs.Start.{first_epoch, IsFormatted, all_fresh}
+use Rattle.ring_world.specs.Start.{first_epoch, IsFormatted}
 
 -- ---- what a request adds
 

@@ -10,10 +10,10 @@ use Rattle.ring_node.specs.declared.flight.Flight.TheVariants.{Batch, Checkpoint
 use Rattle.ring_node.specs.Node.{launched_as}
 use Rattle.ring_node.specs.Open.{Open}
 use Rattle.ring_world.specs.Events.{Thing, Replied, Action, Land, Release, Crash, Process, started}
-use Rattle.ring_world.specs.Capacity.{act, process}
-use Rattle.ring_world.specs.Schedule.{IsReleasable, May, MayHappen, IsSchedule}
+use Rattle.ring_world.specs.Capacity.{process, all_fresh}
+use Rattle.ring_world.specs.Acts.{act, IsReleasable, May, MayHappen}
+use Rattle.ring_world.specs.Schedule.{IsSchedule}
 use Rattle.ring_world.specs.Ring.{launch, release_of}
-use Rattle.ring_world.specs.Start.{all_fresh}
 use Rattle.ring_world.specs.Events as happening
 use Rattle.ring_world.specs.Schedules as scheduled
 use Rattle.ring_world.proofs.Served.{process-same, process-other}

@@ -16,12 +16,11 @@ use Rattle.ring_node.specs.Node.{NodeView, new_node, state_of, durable_in, ticke
 use Rattle.ring_node.specs.Open.{Open, due, is_due}
 use Rattle.ring_node.proofs.Flights.{durable_state}
 use Rattle.ring_world.specs.Events.{Replied, Action, Submit, Land, Crash, Process, started}
-use Rattle.ring_world.specs.Capacity.{act, process}
-use Rattle.ring_world.specs.Schedule.{IsReleasable, May, MayHappen}
+use Rattle.ring_world.specs.Capacity.{process, all_fresh}
+use Rattle.ring_world.specs.Acts.{act, IsReleasable, May, MayHappen}
 use Rattle.ring_world.specs.Schedules.{IsDelivered}
 use Rattle.ring_world.specs.Ring.{is_launched, launch, release_of}
 use Rattle.ring_world.specs.Shows.{ShowsNode, Shows, without_due}
-use Rattle.ring_world.specs.Start.{all_fresh}
 use Rattle.ring_world.specs.Events as happening
 use Rattle.ring_world.specs.Schedules as scheduled
 use Rattle.ring_world.proofs.Moves.{Grows, Stays, grows_one, grows_two, act_launch, may_launch, process_landed, process_left, release_all}

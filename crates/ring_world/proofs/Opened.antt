@@ -9,13 +9,13 @@ use Rattle.std.proofs.Math.Seq.{get_or-append_seam}
 use Rattle.ring_records.specs.Lists.{EachAfter}
 use Rattle.ring_records.specs.Member.{member}
 use Rattle.ring_records.specs.Place.{after}
-use Rattle.ring_records.specs.Ring.{part}
+use Rattle.ring_records.specs.Part.{part}
 use Rattle.ring_records.proofs.Leader.{Contains-nil}
 use Rattle.gated_journal.specs.Reading.{is_header}
 use Rattle.ring_node.specs.Node.{NodeView, new_node}
 use Rattle.ring_world.specs.Capacity.{process}
 use Rattle.ring_world.specs.Shows.{ShowsNode, Shows, IsSound, IsSealed, held_of, new_nodes}
-use Rattle.ring_world.specs.State.{is_ring}
+use Rattle.ring_world.specs.Worlds.{is_ring}
 use Rattle.ring_world.specs.Events as happening
 use Rattle.ring_world.proofs.Lawful.{fresh-formatted}
 

@@ -8,7 +8,8 @@ use Rattle.ring_records.specs.declared.base.Base.{Base}
 use Rattle.ring_records.specs.declared.input.Input.{Input}
 use Rattle.ring_records.specs.declared.refusal.Refusal.{Refusal}
 use Rattle.ring_records.specs.declared.request.Request.{Request}
-use Rattle.ring_records.specs.Allowed.{IsAllowed, objection}
+use Rattle.ring_records.specs.Allowed.{IsAllowed}
+use Rattle.ring_records.specs.Objection.{objection}
 use Rattle.ring_records.specs.Answer.{Rule, refusal, input_of, if_free, if_input, gained, answer, answered, Answered}
 use Rattle.ring_records.specs.Lists.{EachAfter}
 use Rattle.ring_records.specs.States.{NodeState, launched_base, flying_in, opened}

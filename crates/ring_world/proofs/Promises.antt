@@ -12,12 +12,13 @@ use Rattle.ring_records.specs.declared.refusal.Refusal.{Refusal}
 use Rattle.ring_records.specs.declared.reply.Reply.TheVariants as say
 use Rattle.ring_records.specs.declared.request.Request.{Request}
 use Rattle.ring_records.specs.declared.request.Request.TheVariants as ask
-use Rattle.ring_records.specs.Allowed.{retired}
+use Rattle.ring_records.specs.Objection.{retired}
 use Rattle.ring_records.specs.Answer.{Rule, Answer, unless, reply}
 use Rattle.ring_records.specs.Leader.{first_leader, leader, latest}
 use Rattle.ring_records.specs.Lists.{joined_after}
 use Rattle.ring_records.specs.Order.{is_less}
-use Rattle.ring_records.specs.Ring.{part, IsLegal}
+use Rattle.ring_records.specs.Ring.{IsLegal}
+use Rattle.ring_records.specs.Part.{part}
 use Rattle.ring_records.specs.States.{NodeState}
 use Rattle.ring_records.proofs.Growth.{first_leader-kept, EachAfter-front, EachAfter-at, take-less}
 use Rattle.ring_records.proofs.History.{leader-shown}

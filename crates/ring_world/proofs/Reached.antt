@@ -7,9 +7,9 @@ use Rattle.ring_records.specs.States.{launched, landed as landed_state}
 use Rattle.ring_records.specs.Serving.{asked as asked_state}
 use Rattle.ring_node.specs.declared.flight.Flight.TheVariants.{Batch}
 use Rattle.ring_world.specs.Events.{Submit, Launch, Land, Process}
-use Rattle.ring_world.specs.Capacity.{act}
+use Rattle.ring_world.specs.Capacity.{all_fresh}
+use Rattle.ring_world.specs.Acts.{act}
 use Rattle.ring_world.specs.Ring.{RingView, node_at, asked, landed, waits, settled, due_at, given}
-use Rattle.ring_world.specs.Start.{all_fresh}
 use Rattle.ring_world.specs.Events as happening
 use Rattle.ring_world.proofs.Moves.{process_two, process_two-other, process-release, process-releases}
 use Rattle.ring_world.proofs.Served.{process-same, process-other}

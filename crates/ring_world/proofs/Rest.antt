@@ -6,21 +6,22 @@ use Rattle.ring_records.specs.declared.base.Base.{Base}
 use Rattle.ring_records.specs.declared.input.Input.{Input}
 use Rattle.ring_records.specs.declared.refusal.Refusal.{Refusal}
 use Rattle.ring_records.specs.declared.request.Request.{Request}
-use Rattle.ring_records.specs.Admission.{newest, refusal}
+use Rattle.ring_records.specs.Admission.{newest}
+use Rattle.ring_records.specs.Answering.{refusal, gained, if_input}
 use Rattle.ring_records.specs.Answer.{input_of, if_free}
-use Rattle.ring_records.specs.Answering.{gained, if_input}
 use Rattle.ring_records.specs.Answer as by_rule
 use Rattle.ring_records.specs.Member.{member}
-use Rattle.ring_records.specs.Ring.{part}
+use Rattle.ring_records.specs.Part.{part}
 use Rattle.ring_records.specs.States.{NodeState, left_by, launched_base}
 use Rattle.ring_records.specs.Serving.{gained_by}
 use Rattle.ring_node.specs.declared.flight.Flight.{Flight}
 use Rattle.ring_node.specs.declared.flight.Flight.TheVariants.{Batch, Checkpoint}
 use Rattle.ring_world.specs.Events.{Action, LaunchAll, Land, Crash, Process}
-use Rattle.ring_world.specs.Capacity.{act, process, state_after}
+use Rattle.ring_world.specs.Capacity.{process, state_after, all_fresh}
+use Rattle.ring_world.specs.Acts.{act}
 use Rattle.ring_world.specs.Rest.{IsAllDurable}
-use Rattle.ring_world.specs.Ring.{RingView, IsSameRing, Part, node_at, asked, launch, landed, waits, settled, released, and_then, round, rounds, drained, crashed, stopped, given, brought, swept, swept_with, swept_on, swept_one, next_delivery, new_ring}
-use Rattle.ring_world.specs.Start.{all_fresh}
+use Rattle.ring_world.specs.Ring.{RingView, Part, node_at, asked, launch, landed, waits, settled, released, and_then, round, rounds, drained, crashed, stopped, given, brought, swept, swept_with, swept_on, swept_one, next_delivery, new_ring}
+use Rattle.ring_world.specs.Left.{IsSameRing}
 use Rattle.ring_world.specs.Events as happening
 use Rattle.ring_world.proofs.Moves.{process_two, process_two-other}
 use Rattle.ring_world.proofs.Reached.{node_given, node_settled, node_asked, asked-other, node_landed, landed-other, landed_idle}

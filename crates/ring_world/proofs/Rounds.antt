@@ -15,7 +15,8 @@ use Rattle.ring_records.specs.History.{floor, is_retired, taken, first_stand}
 use Rattle.ring_records.specs.Leader.{first_leader, leader}
 use Rattle.ring_records.specs.Order.{is_less}
 use Rattle.ring_records.specs.Place.{after}
-use Rattle.ring_records.specs.Ring.{part, IsLegal}
+use Rattle.ring_records.specs.Ring.{IsLegal}
+use Rattle.ring_records.specs.Part.{part}
 use Rattle.ring_records.proofs.Keys.{is_less-or, is_less-chain, is_less-one_way}
 use Rattle.ring_records.proofs.Lists.{none≢some}
 use Rattle.ring_world.specs.Agreement.{IsDrained, IsRetiredNowhere}

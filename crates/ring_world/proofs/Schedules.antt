@@ -16,7 +16,8 @@ use Rattle.ring_records.specs.Allowed.{IsAllowed}
 use Rattle.ring_records.specs.Answer.{input_of, PacketRests}
 use Rattle.ring_records.specs.Lists.{EachAfter, joined_after}
 use Rattle.ring_records.specs.Place.{before, after}
-use Rattle.ring_records.specs.Ring.{item_at, part, IsCarried, MayFollow, IsLegal}
+use Rattle.ring_records.specs.Ring.{IsCarried, MayFollow, IsLegal}
+use Rattle.ring_records.specs.Part.{item_at, part}
 use Rattle.ring_records.specs.States.{opened}
 use Rattle.ring_records.proofs.Growth.{take-less, sent-kept, taken-kept, EachAfter-at, EachAfter-take}
 use Rattle.ring_records.proofs.Leader.{Contains-nil, Contains-here, Contains-later}

@@ -5,12 +5,14 @@ use Rattle.ring_records.specs.declared.base.Base.{Base}
 use Rattle.ring_records.specs.declared.input.Input.{Input}
 use Rattle.ring_records.specs.declared.packet.Packet.{Packet}
 use Rattle.ring_records.specs.Answer.{PacketRests}
-use Rattle.ring_records.specs.Ring.{part, IsCarried, IsLegal}
+use Rattle.ring_records.specs.Ring.{IsCarried, IsLegal}
+use Rattle.ring_records.specs.Part.{part}
 use Rattle.ring_records.proofs.Lists.{along}
-use Rattle.ring_world.specs.Capacity.{within, act, process, state_after, committed}
+use Rattle.ring_world.specs.Capacity.{within, process, state_after, committed}
+use Rattle.ring_world.specs.Acts.{act, MayHappen}
 use Rattle.ring_world.specs.Events.{Sent, Action, Release, Process}
 use Rattle.ring_world.specs.Events as happening
-use Rattle.ring_world.specs.Schedule.{MayHappen, IsSchedule}
+use Rattle.ring_world.specs.Schedule.{IsSchedule}
 use Rattle.ring_world.specs.Start.{IsFormatted}
 use Rattle.ring_world.proofs.Lawful.{Sound, sound-new, sound-next}
 use Rattle.ring_world.proofs.Schedules as scheduled

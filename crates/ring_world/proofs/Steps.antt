@@ -11,7 +11,8 @@ use Rattle.ring_node.specs.Open.{due}
 use Rattle.ring_world.specs.Events.{Action, Submit, Crash}
 use Rattle.ring_world.specs.Ring.{RingView, node_at, asked, launch, landing, landed, due_at, release_of, settled, crashed, stopped, given, handed, is_released}
 use Rattle.ring_world.specs.Shows.{Shows, IsSound, IsSealed, held_of, without_due}
-use Rattle.ring_world.specs.State.{State, by_log}
+use Rattle.ring_world.specs.State.{State}
+use Rattle.ring_world.specs.Worlds.{by_log}
 use Rattle.ring_world.specs.declared.log.Log.{Log}
 use Rattle.ring_world.proofs.Handed.{handed_delivers}
 use Rattle.ring_world.proofs.Tickets.{without-sealed}

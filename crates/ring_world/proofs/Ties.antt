@@ -20,7 +20,7 @@ use Rattle.ring_world.specs.Events.{Action, Submit, Land, Crash}
 use Rattle.ring_world.specs.Schedules.{IsDelivered}
 use Rattle.ring_world.specs.Ring.{RingView, node_at, held_at, is_launched, launch, landing, landed, asked, due_at, release_of, settled, crashed, stopped, given, handed, is_released}
 use Rattle.ring_world.specs.Shows.{ShowsNode, Shows, IsSealed, held_of, without_due}
-use Rattle.ring_world.specs.Start.{all_fresh}
+use Rattle.ring_world.specs.Capacity.{all_fresh}
 use Rattle.ring_world.proofs.Credits.{credited}
 use Rattle.ring_world.proofs.Handed.{handed_stays}
 use Rattle.ring_world.proofs.Nodes.{resting, mine, answered_same, asked_shows, landed_shows, settled_shows, crashed_shows, stopped_shows}

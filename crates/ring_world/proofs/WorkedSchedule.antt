@@ -4,10 +4,10 @@ use Rattle.std.specs.Prelude.{nat_eq, if◌then◌else◌}
 use Rattle.ring_records.specs.declared.base.Base.{Base}
 use Rattle.ring_records.specs.declared.reply.Reply.TheVariants as say
 use Rattle.ring_records.specs.declared.request.Request.TheVariants as ask
-use Rattle.ring_records.specs.Admission.{fresh, cost, used, is_retire, no_room, shortage, refusal, snapshot_len, newest}
-use Rattle.ring_records.specs.Allowed.{retired, already, is_touched, stale, out_of_turn, too_many, objection}
+use Rattle.ring_records.specs.Admission.{fresh, cost, used, is_retire, no_room, shortage, snapshot_len, newest}
+use Rattle.ring_records.specs.Answering.{refusal, gained, reply}
+use Rattle.ring_records.specs.Objection.{retired, already, is_touched, stale, out_of_turn, too_many, objection}
 use Rattle.ring_records.specs.Answer.{input_of}
-use Rattle.ring_records.specs.Answering.{gained, reply}
 use Rattle.ring_records.specs.Answer as by_rule
 use Rattle.ring_records.specs.Emission.{is_below, passed_on, emit, sent}
 use Rattle.ring_records.specs.History.{floor_for, floor, is_retired, names, is_named, touched, bid_for, first_stand, stood, message_of, taken, upto_of, credit, is_live_stand, stands}
@@ -15,7 +15,7 @@ use Rattle.ring_records.specs.Leader.{is_bid, makes_leader, first_leader, leader
 use Rattle.ring_records.specs.Lists.{first, found_after, joined_after, EachAfter}
 use Rattle.ring_records.specs.Order.{is_less, is_key}
 use Rattle.ring_records.specs.Place.{before, after}
-use Rattle.ring_records.specs.Ring.{item_at, part}
+use Rattle.ring_records.specs.Part.{item_at, part}
 use Rattle.ring_records.specs.WorkedRetire as relay
 use Rattle.ring_records.specs.WorkedRetire.{retired_relay}
 use Rattle.ring_records.specs.WorkedRun.{red_5, winner, first_election}
@@ -24,14 +24,15 @@ use Rattle.ring_audit.specs.Placement.{IsWhole}
 use Rattle.ring_node.specs.declared.flight.Flight.{Flight}
 use Rattle.ring_node.specs.declared.flight.Flight.TheVariants.{Batch, Checkpoint}
 use Rattle.ring_world.specs.Committed.{made_durable, committed_by}
-use Rattle.ring_world.specs.Capacity.{committed, act, process, state_after}
+use Rattle.ring_world.specs.Capacity.{committed, process, state_after, all_fresh}
+use Rattle.ring_world.specs.Acts.{act, IsReleasable, May, MayHappen}
 use Rattle.ring_world.specs.Events.{Action, Replied, Shown}
-use Rattle.ring_world.specs.Schedule.{IsReleasable, May, MayHappen, IsSchedule}
+use Rattle.ring_world.specs.Schedule.{IsSchedule}
 use Rattle.ring_world.specs.Schedules.{Rests, IsDelivered}
 use Rattle.ring_world.specs.Histories.{histories}
 use Rattle.ring_world.specs.Released.{named_by, named, IsAnnounced}
 use Rattle.ring_world.specs.Ring.{launch}
-use Rattle.ring_world.specs.Start.{IsFormatted, all_fresh}
+use Rattle.ring_world.specs.Start.{IsFormatted}
 use Rattle.ring_world.specs.WorkedSchedule.{election_events, alone, crash_events, crash_run, retire_events, three_layouts, layout_events, layout_run}
 use Rattle.ring_world.specs.Events as happening
 use Rattle.ring_world.specs.Schedules as scheduled

@@ -4,11 +4,10 @@ use Rattle.std.specs.List.{Contains, filter_map}
 use Rattle.ring_records.specs.declared.candidate.Candidate.{Candidate}
 use Rattle.ring_records.specs.declared.input.Input.TheVariants.{Stand}
 use Rattle.ring_records.specs.declared.key.Key.{Key}
-use Rattle.ring_world.specs.Capacity.{committed}
+use Rattle.ring_world.specs.Capacity.{committed, all_fresh}
 use Rattle.ring_world.specs.Events.{Replied, Sent, Shown, Action, Submit, Launch, LaunchAll, Land, Release, Crash}
 use Rattle.ring_world.specs.Released.{named_by}
 use Rattle.ring_world.specs.Ring.{RingView}
-use Rattle.ring_world.specs.Start.{all_fresh}
 use Rattle.ring_world.specs.declared.announced.Announced.{Announced}
 
 abbrev pub announced_with : ℕ → Option (Key × Candidate) → Option Announced

@@ -2,7 +2,7 @@
 use Rattle.std.specs.Prelude.{ℕ, ◌≡◌, ◌≤◌, List, length, take, Some}
 use Rattle.ring_records.specs.declared.base.Base.{Base}
 use Rattle.ring_records.specs.declared.input.Input.{Input}
-use Rattle.ring_records.specs.Admission.{IsBaseOf}
+use Rattle.ring_records.specs.Lawful.{IsBaseOf}
 use Rattle.ring_records.specs.Answer.{Answered, PacketRests}
 use Rattle.ring_records.specs.Answering.{Answers}
 use Rattle.ring_records.specs.Leader.{leader}

@@ -1,8 +1,8 @@
 -- The rule of room of this service, and where events lead by it.
-use Rattle.std.specs.Prelude.{ℕ, ◌+◌, List, length, Some}
+use Rattle.std.specs.Prelude.{ℕ, ◌+◌, List}
 use Rattle.ring_records.specs.declared.base.Base.{Base}
 use Rattle.ring_records.specs.declared.input.Input.{Input}
-use Rattle.ring_records.specs.Admission.{base_of, shortage}
+use Rattle.ring_records.specs.Admission.{base_of, shortage, fresh}
 use Rattle.ring_records.specs.States.{NodeState}
 use Rattle.ring_records.specs.Summary.{summary}
 use Rattle.ring_world.specs.Committed as ended
@@ -16,14 +16,6 @@ within capacity = record {
   stands = λ layout me base h. base_of layout (base.epoch + 1) (summary me h);
 }
 
--- all its inputs fly, as a checkpoint of this layout
-abbrev pub launched_in : ℕ → ℕ → NodeState → NodeState
-launched_in layout me s = record s { flying = length s.inputs; checkpoint = Some (base_of layout (s.base.epoch + 1) (summary me s.inputs)) }
-
--- node me of a ring of n, with a capacity, after the action
-abbrev pub act : ℕ → ℕ → ℕ → Process → Action → Process
-act me n capacity p a = happening.act me n (within capacity) p a
-
 -- node i after the events, where the journal of each node began with this base
 abbrev pub process : (ℕ → Base) → ℕ → ℕ → List (ℕ × Action) → ℕ → Process
 process start n capacity events i = happening.process start n (within capacity) events i
@@ -35,3 +27,7 @@ state_after start n capacity events i = (process start n capacity events i).stat
 -- the inputs that became durable, in this order, each with its node
 abbrev pub committed : (ℕ → Base) → ℕ → ℕ → List (ℕ × Action) → List (ℕ × Input)
 committed start n capacity events = ended.committed start n (within capacity) events
+
+-- this release formatted the journal of each node
+abbrev pub all_fresh : ℕ → Base
+all_fresh i = fresh

@@ -3,11 +3,10 @@ use Rattle.std.specs.Prelude.{ℕ, List, Option, nat_lt}
 use Rattle.std.specs.List.{filter_map, range_with_len}
 use Rattle.ring_records.specs.declared.refusal.Refusal.{Refusal}
 use Rattle.ring_records.specs.declared.refusal.Refusal.TheVariants as refused
-use Rattle.ring_records.specs.Allowed.{where_so}
+use Rattle.ring_records.specs.Objection.{where_so}
 use Rattle.ring_records.specs.Lists.{first, or_else}
 use Rattle.ring_world.specs.Events.{Action}
-use Rattle.ring_world.specs.Capacity.{process}
-use Rattle.ring_world.specs.Start.{all_fresh}
+use Rattle.ring_world.specs.Capacity.{process, all_fresh}
 use Rattle.ring_world.specs.State.{State}
 
 -- node i has its first inputs no more

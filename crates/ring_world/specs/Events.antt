@@ -9,7 +9,7 @@ use Rattle.ring_records.specs.declared.key.Key.{Key}
 use Rattle.ring_records.specs.declared.packet.Packet.{Packet}
 use Rattle.ring_records.specs.declared.request.Request.{Request}
 use Rattle.ring_records.specs.Answer.{Rule, gained, Answered, answered}
-use Rattle.ring_records.specs.Ring.{part}
+use Rattle.ring_records.specs.Part.{part}
 use Rattle.ring_records.specs.States.{NodeState, launched_base, opened, launched, landed, left_by}
 
 -- the reply to a request, a packet to a neighbour, or, on a board, the leader for a key

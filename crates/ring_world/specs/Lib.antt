@@ -1,3 +1,4 @@
+pub mod Acts
 pub mod Agreement
 pub mod Announced
 pub mod Based
@@ -8,6 +9,7 @@ pub mod Dropped
 pub mod Events
 pub mod Happened
 pub mod Histories
+pub mod Left
 pub mod Released
 pub mod Rest
 pub mod Ring
@@ -19,3 +21,4 @@ pub mod Start
 pub mod State
 pub mod Step
 pub mod WorkedSchedule
+pub mod Worlds

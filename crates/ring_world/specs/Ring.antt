@@ -1,5 +1,5 @@
 -- A ring of nodes: what happened to it, and the parts that its events are made of.
-use Rattle.std.specs.Prelude.{ℕ, zero, suc, ◌≡◌, ◌==◌, ◌+◌, ◌-◌, ◌^◌, Bool, true, false, ◌&&◌, nat_lt, nat_le, if◌then◌else◌, List, [], ◌∷◌, ◌++◌, length, map, replicate, set, slice_get, slice_index_or, Option, Some, None}
+use Rattle.std.specs.Prelude.{ℕ, zero, suc, ◌==◌, ◌+◌, ◌-◌, ◌^◌, Bool, true, false, ◌&&◌, nat_lt, nat_le, if◌then◌else◌, List, [], ◌∷◌, ◌++◌, length, map, replicate, set, slice_get, slice_index_or, Option, Some, None}
 use Rattle.std.specs.List.{filter_map, range_with_len}
 use Rattle.ring_records.specs.declared.candidate.Candidate.{Candidate}
 use Rattle.ring_records.specs.declared.msg.Msg.{Msg}
@@ -22,8 +22,7 @@ use Rattle.ring_node.specs.declared.flight.Flight.{Flight}
 use Rattle.ring_node.specs.declared.flight.Flight.TheVariants.{Batch, Checkpoint}
 use Rattle.ring_node.specs.Open.{Open, serial_of, due, sealed}
 use Rattle.ring_world.specs.Events.{Replied, Sent, Action, Submit, Launch, LaunchAll, Land, Release, Crash}
-use Rattle.ring_world.specs.Capacity.{state_after}
-use Rattle.ring_world.specs.Start.{all_fresh}
+use Rattle.ring_world.specs.Capacity.{state_after, all_fresh}
 
 -- how many nodes it has, numbered from 1, and their capacity; whether each input is made durable as it is accepted;
 -- whether a growth was refused, after which it is of no use; what happened, and as much of that as was told; and the
@@ -40,10 +39,6 @@ pub record RingView : Type 0 where
 -- one in which nothing happened
 abbrev pub new_ring : ℕ → Bool → ℕ → RingView
 new_ring size eager capacity = record { size = size; capacity = capacity; eager = eager; failed = false; events = []; told = []; held = replicate size [] }
-
--- the same nodes, as eager, with as much told
-abbrev pub IsSameRing : RingView → RingView → Type 0
-IsSameRing w v = (v.size ≡ w.size) × (v.capacity ≡ w.capacity) × (v.eager ≡ w.eager) × (v.told ≡ w.told)
 
 -- ---- the parts of an event
 

@@ -1,6 +1,7 @@
 -- What a world is seen as while it works, and when it has failed.
 use Rattle.std.specs.Prelude.{true, []}
-use Rattle.ring_world.specs.State.{State, by_log}
+use Rattle.ring_world.specs.State.{State}
+use Rattle.ring_world.specs.Worlds.{by_log}
 use Rattle.ring_world.specs.declared.world.Stage.{Stage}
 use Rattle.ring_world.specs.declared.world.Stage.TheVariants.{Working, Failed}
 

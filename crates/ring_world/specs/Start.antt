@@ -1,7 +1,7 @@
 -- What a journal begins with, by whatever release.
 use Rattle.std.specs.Prelude.{ℕ, ◌≡◌, ◌≤◌, nat_lt, if◌then◌else◌}
 use Rattle.ring_records.specs.declared.base.Base.{Base}
-use Rattle.ring_records.specs.Admission.{base_of, fresh, newest, oldest_area}
+use Rattle.ring_records.specs.Admission.{base_of, newest, oldest_area}
 use Rattle.ring_records.specs.Summary.{empty}
 
 -- the number of the area that a new journal of this layout begins with: layout 1 has no areas, and so none
@@ -17,7 +17,3 @@ pub record IsFormatted (base : Base) : Type 0 where
   pub least : 1 ≤ base.layout
   pub most : base.layout ≤ newest
   pub is : base ≡ formatted base.layout
-
--- this release formatted the journal of each node
-abbrev pub all_fresh : ℕ → Base
-all_fresh i = fresh

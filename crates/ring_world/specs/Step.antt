@@ -1,11 +1,11 @@
 -- What an event tells, where it leads, and why it is refused.
-use Rattle.std.specs.Prelude.{ℕ, ◌≡◌, ◌+◌, ◌-◌, ◌^◌, Bool, false, ◌||◌, not, nat_eq, nat_lt, nat_le, if◌then◌else◌, List, [], length, Option, Some, None}
+use Rattle.std.specs.Prelude.{ℕ, ◌≡◌, ◌+◌, ◌-◌, ◌^◌, Bool, ◌||◌, not, nat_eq, nat_lt, nat_le, if◌then◌else◌, List, [], length, Option, Some, None}
 use Rattle.ring_records.specs.declared.refusal.Refusal.{Refusal}
 use Rattle.ring_records.specs.declared.refusal.Refusal.TheVariants as refused
 use Rattle.ring_records.specs.declared.reply.Reply.{Reply}
 use Rattle.ring_records.specs.declared.request.Request.{Request}
 use Rattle.ring_records.specs.declared.request.Request.TheVariants as ask
-use Rattle.ring_records.specs.Allowed.{where_so}
+use Rattle.ring_records.specs.Objection.{where_so}
 use Rattle.ring_records.specs.Lists.{or_else}
 use Rattle.ring_records.specs.Member.{member}
 use Rattle.ring_records.specs.Outside.{is_outside}
@@ -144,15 +144,3 @@ refusal_of s event =
     (or_else (objection_to s event)
     (or_else (where_so (is_full s.ring) refused.Limit)
     (unbegun s event)))
-
--- want of memory changes nothing
-unfoldable pub is_lasting : State → Event → Bool
-is_lasting s (Submit node q) = not s.ring.eager
-is_lasting s (Flush node) = false
-is_lasting s (Deliver from msg_no) = not s.ring.eager
-is_lasting s DeliverAll = false
-is_lasting s (Credit from upto) = not s.ring.eager
-is_lasting s (Crash node) = false
-is_lasting s (Stop node call tear) = false
-is_lasting s (Checkpoint node) = false
-is_lasting s (StopCheckpoint node call tear) = false

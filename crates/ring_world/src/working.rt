@@ -7,12 +7,11 @@ ghost use Rattle.ring_world.specs.Ring.{is_msg, launch};
 ghost use Rattle.ring_records.specs.Serving.{shown_in};
 ghost use Rattle.ring_node.specs.Held.{IsShownBy};
 ghost use Rattle.ring_node.specs.Node.{state_of};
-ghost use Rattle.ring_world.specs.Capacity.{process};
+ghost use Rattle.ring_world.specs.Capacity.{process, all_fresh};
 ghost use Rattle.ring_world.specs.Schedule.{IsSchedule};
 ghost use Rattle.ring_world.specs.Happened.{action_of};
 ghost use Rattle.ring_world.specs.Shows.{new_nodes};
-ghost use Rattle.ring_world.specs.Start.{all_fresh};
-ghost use Rattle.ring_world.specs.State.{is_ring, by_log};
+ghost use Rattle.ring_world.specs.Worlds.{is_ring, by_log};
 
 use crate::happened::{Deed, Happened, Thing};
 use crate::log::Log;
@@ -32,7 +31,8 @@ pub struct Working {
 impl Model for Working {
     ghost use Rattle.std.specs.Prelude.{◌≤◌, false, length, map};
     ghost use Rattle.ring_world.specs.Shows.{IsSound, held_of};
-    ghost use Rattle.ring_world.specs.State.{State, by_log};
+    ghost use Rattle.ring_world.specs.State.{State};
+    ghost use Rattle.ring_world.specs.Worlds.{by_log};
 
     ghost Value = { State };
 
@@ -43,7 +43,8 @@ impl Model for Working {
 
 impl Working {
     ghost use Rattle.ring_world.specs.Ring.{node_at, waits, message, is_earned, is_released, is_full};
-    ghost use Rattle.ring_world.specs.State.{opened, failed, IsWorld};
+    ghost use Rattle.ring_world.specs.State.{opened};
+    ghost use Rattle.ring_world.specs.Worlds.{failed, IsWorld};
 
     /// A ring of `size` nodes of this capacity in bytes, in which nothing has happened. In an eager one each input is
     /// made durable as it is accepted.

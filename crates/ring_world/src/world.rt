@@ -9,12 +9,12 @@ ghost use Rattle.ring_world.specs.declared.announced.Announced.{Announced as The
 ghost use Rattle.ring_world.specs.Announced.{announced, Stands};
 ghost use Rattle.ring_audit.specs.Audits.{HasShape};
 ghost use Rattle.ring_audit.specs.Placement.{lists, IsWhole};
-ghost use Rattle.ring_world.specs.Capacity.{committed, state_after};
+ghost use Rattle.ring_world.specs.Capacity.{committed, state_after, all_fresh};
 ghost use Rattle.ring_world.specs.Schedule.{IsSchedule};
 ghost use Rattle.ring_world.specs.Dropped.{withheld};
 ghost use Rattle.ring_world.specs.Histories.{histories};
-ghost use Rattle.ring_world.specs.Start.{all_fresh};
-ghost use Rattle.ring_world.specs.Step.{told, Steps, refusal_of, is_lasting};
+ghost use Rattle.ring_world.specs.Step.{told, Steps, refusal_of};
+ghost use Rattle.ring_world.specs.Worlds.{is_lasting};
 
 use crate::announced::Announced;
 use crate::event::Event;
@@ -42,7 +42,8 @@ pub enum Stage {
 
 impl Model for World {
     ghost use Rattle.ring_world.specs.Stage.{state_of};
-    ghost use Rattle.ring_world.specs.State.{State, IsWorld};
+    ghost use Rattle.ring_world.specs.State.{State};
+    ghost use Rattle.ring_world.specs.Worlds.{IsWorld};
 
     ghost Value = { State };
 
@@ -52,7 +53,8 @@ impl Model for World {
 }
 
 impl World {
-    ghost use Rattle.ring_world.specs.State.{State, opened, is_ring, by_log};
+    ghost use Rattle.ring_world.specs.State.{State, opened};
+    ghost use Rattle.ring_world.specs.Worlds.{is_ring, by_log};
 
     /// A ring of n nodes in which nothing has happened. In an eager one each input is made durable as it is accepted;
     /// else it waits for a flush. Refused as 2 where n is not 2 to 16 or the capacity of each node not 4,096 to

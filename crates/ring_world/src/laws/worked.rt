@@ -2,17 +2,16 @@
 ghost use Rattle.std.specs.Prelude.{◌≡◌, ◌≤◌, ℕ, Some};
 ghost use Rattle.ring_records.specs.Admission.{newest};
 ghost use Rattle.ring_records.specs.Leader.{leader};
-ghost use Rattle.ring_records.specs.Ring.{part};
+ghost use Rattle.ring_records.specs.Part.{part};
 ghost use Rattle.ring_records.specs.WorkedRetire as relay;
 ghost use Rattle.ring_records.specs.WorkedRetire.{retired_relay};
 ghost use Rattle.ring_records.specs.WorkedRun.{red_5, winner, first_election};
 ghost use Rattle.ring_audit.specs.Placement.{IsWhole};
-ghost use Rattle.ring_world.specs.Capacity.{committed, state_after};
+ghost use Rattle.ring_world.specs.Capacity.{committed, state_after, all_fresh};
 ghost use Rattle.ring_world.specs.Events.{Launch, LaunchAll};
 ghost use Rattle.ring_world.specs.Schedule.{IsSchedule};
 ghost use Rattle.ring_world.specs.Histories.{histories};
 ghost use Rattle.ring_world.specs.Released.{IsAnnounced};
-ghost use Rattle.ring_world.specs.Start.{all_fresh};
 ghost use Rattle.ring_world.specs.WorkedSchedule.{election_events, alone, crash_events, crash_run, retire_events, three_layouts, layout_events, layout_run};
 
 /// There are schedules with a leader. In an election of three nodes the inputs become durable in the order of the

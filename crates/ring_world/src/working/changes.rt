@@ -6,7 +6,7 @@ ghost use Rattle.ring_node.specs.Node.{state_of, made_durable};
 ghost use Rattle.ring_node.specs.Open.{due};
 ghost use Rattle.ring_world.specs.Ring.{node_at, asked, landing, landed, settled, replies, reply_of, release_of, given, handed, drained, brought, is_released};
 ghost use Rattle.ring_world.specs.Shows.{without_due};
-ghost use Rattle.ring_world.specs.State.{IsSameState};
+ghost use Rattle.ring_world.specs.Left.{IsSameState};
 
 use super::*;
 

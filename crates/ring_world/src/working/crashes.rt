@@ -8,7 +8,7 @@ ghost use Rattle.ring_node.specs.Open.{serial_of};
 ghost use Rattle.ring_world.specs.Ring as rings;
 ghost use Rattle.ring_world.specs.Ring.{node_at, is_launched};
 ghost use Rattle.ring_world.specs.Stage.{state_of};
-ghost use Rattle.ring_world.specs.State.{IsLeft};
+ghost use Rattle.ring_world.specs.Left.{IsLeft};
 ghost use Rattle.ring_world.specs.Step.{told, crashed, reopened, stopped};
 
 use super::*;

@@ -2,7 +2,7 @@
 ghost use Rattle.std.specs.Prelude.{◌≡◌, ◌≤◌, ◌<◌, ◌^◌, length, true, false, IfOk, IfSome};
 ghost use Rattle.ring_records.specs.Outside.{is_outside};
 ghost use Rattle.ring_world.specs.Ring.{is_released, carried, ready, next_delivery, swept_one, swept};
-ghost use Rattle.ring_world.specs.State.{IsSameState};
+ghost use Rattle.ring_world.specs.Left.{IsSameState};
 
 use super::*;
 

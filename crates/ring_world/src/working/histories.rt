@@ -3,7 +3,7 @@ ghost use Rattle.std.specs.Prelude.{◌≡◌, ◌⊎◌, false, None, Some, IfO
 ghost use Rattle.ring_audit.specs.Placement.{lists};
 ghost use Rattle.ring_world.specs.Dropped.{first_dropped};
 ghost use Rattle.ring_world.specs.Histories.{histories};
-ghost use Rattle.ring_world.specs.Start.{all_fresh};
+ghost use Rattle.ring_world.specs.Capacity.{all_fresh};
 
 use super::*;
 use ring_records::{Input, Refusal};

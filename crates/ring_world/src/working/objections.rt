@@ -1,6 +1,6 @@
 // Why an event is refused.
 ghost use Rattle.std.specs.Prelude.{◌≡◌, ◌≤◌, None, IfSome};
-ghost use Rattle.ring_records.specs.Allowed.{where_so};
+ghost use Rattle.ring_records.specs.Objection.{where_so};
 ghost use Rattle.ring_world.specs.declared.event.Event.TheVariants as event;
 ghost use Rattle.ring_world.specs.Ring.{is_full};
 ghost use Rattle.ring_world.specs.Step.{refusal_of, objection_to, unbegun, no_node, no_stop, no_checkpoint, spent};

@@ -4,10 +4,11 @@ ghost use Rattle.ring_records.specs.Outside.{is_outside};
 ghost use Rattle.ring_records.specs.Place.{before};
 ghost use Rattle.ring_world.specs.Ring.{node_at, carried, is_earned, is_released};
 ghost use Rattle.ring_world.specs.Stage.{state_of};
-ghost use Rattle.ring_world.specs.Start.{all_fresh};
-ghost use Rattle.ring_world.specs.State.{IsLeft};
+ghost use Rattle.ring_world.specs.Capacity.{all_fresh};
+ghost use Rattle.ring_world.specs.Left.{IsLeft};
 ghost use Rattle.ring_world.specs.Schedule.{IsSchedule};
-ghost use Rattle.ring_world.specs.Step.{Steps, told, nothing_told, unknown, submitted, flushed, delivered_all, put, stepped, refusal_of, is_lasting};
+ghost use Rattle.ring_world.specs.Step.{Steps, told, nothing_told, unknown, submitted, flushed, delivered_all, put, stepped, refusal_of};
+ghost use Rattle.ring_world.specs.Worlds.{is_lasting};
 
 use super::*;
 use crate::event::Event;
@@ -41,7 +42,7 @@ impl Working {
 
     // Lets an event happen that nothing is objected to. Refused for memory, what is left: the ring as it was where a
     // node of one that is not eager is asked, and else what was told.
-    #[tactic(auto, unfolding(crate::specs::Step::refusal_of, crate::specs::Step::objection_to, crate::specs::Step::unbegun, crate::specs::Step::stepped, crate::specs::Step::is_lasting))]
+    #[tactic(auto, unfolding(crate::specs::Step::refusal_of, crate::specs::Step::objection_to, crate::specs::Step::unbegun, crate::specs::Step::stepped, crate::specs::Worlds::is_lasting))]
     fn perform(self, event: Event) -> Result<(Working, Outcome), Stage>
         requires free { refusal_of self event ≡ None }
         ensures step { IfOk result (λ r. (keeps_flying : Bool) × ((told r.1, r.0) ≡ stepped keeps_flying self event)) }

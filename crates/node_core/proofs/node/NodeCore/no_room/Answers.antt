@@ -1,7 +1,7 @@
 use Rattle.std.proofs.Common.{◌∙◌, ◌+◌, nat_lt, sym, ap}
 use Rattle.ring_records.specs.declared.refusal.Refusal.TheVariants.{Full}
 use Rattle.ring_records.specs.Admission.{newest, no_area, snapshot_len}
-use Rattle.ring_records.specs.Allowed.{where_so}
+use Rattle.ring_records.specs.Objection.{where_so}
 use Rattle.ring_records.specs.Known.{stepped}
 use Rattle.ring_records.proofs.Admission.{plain_room, renewed_room}
 use Rattle.node_core.specs.Core.{CoreView}

@@ -1,6 +1,6 @@
 use Rattle.std.proofs.Common.{◌≡◌, ◌-◌, length, ap, subst, arith}
 use Rattle.ring_records.specs.Allowed.{IsAllowed}
-use Rattle.ring_records.specs.Ring.{part as part_of}
+use Rattle.ring_records.specs.Part.{part as part_of}
 use Rattle.ring_audit.specs.Placement.{lists}
 use Rattle.ring_audit.proofs.Steps.{part_at, history_is, index_in, IsBehind, next_found, next_same, next_carried}
 use Rattle.ring_audit.proofs.placing.Placing.next_of.Goals as goal

@@ -1,6 +1,6 @@
 use Rattle.std.proofs.Common.{◌≡◌, ◌≤◌, ◌-◌, ◌++◌}
 use Rattle.ring_world.specs.Ring.{rounds}
-use Rattle.ring_world.specs.State.{IsSameState}
+use Rattle.ring_world.specs.Left.{IsSameState}
 use Rattle.ring_world.proofs.working.Working.drain.Given as goal
 
 -- what was released and what is left make the whole

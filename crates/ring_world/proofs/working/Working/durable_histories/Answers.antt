@@ -2,8 +2,7 @@ use Rattle.std.proofs.Common.{◌≡◌, ◌+◌, Vec, Global, ◌++◌, ◌∷�
 use Rattle.std.proofs.lemmas.List.{map_push}
 use Rattle.ring_records.specs.declared.input.Input.{Input}
 use Rattle.ring_records.specs.States.{durable_in}
-use Rattle.ring_world.specs.Capacity.{state_after}
-use Rattle.ring_world.specs.Start.{all_fresh}
+use Rattle.ring_world.specs.Capacity.{state_after, all_fresh}
 use Rattle.ring_world.specs.State.{State}
 use Rattle.ring_world.proofs.Histories.{histories_more, none_dropped}
 use Rattle.ring_world.proofs.Opened.{after_next}

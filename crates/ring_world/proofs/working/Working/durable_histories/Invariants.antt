@@ -2,7 +2,7 @@ use Rattle.std.proofs.Common.{◌≡◌, ◌+◌, ◌<◌, ◌≤◌}
 use Rattle.ring_audit.specs.Placement.{lists}
 use Rattle.ring_world.proofs.Histories.{histories_up_to}
 use Rattle.ring_world.proofs.working.Working.durable_histories.Given as goal
-use Rattle.ring_world.specs.Start.{all_fresh}
+use Rattle.ring_world.specs.Capacity.{all_fresh}
 
 -- those of the nodes so far
 abbrev pub invariant-loop : goal.invariant-loop

@@ -1,6 +1,7 @@
 use Rattle.std.proofs.Common.{◌≡◌, [], false, map, sym, subst, ap, ◌∙◌, arith}
 use Rattle.ring_world.specs.Shows.{IsSound, held_of}
-use Rattle.ring_world.specs.State.{IsWorld, by_log, opened}
+use Rattle.ring_world.specs.State.{opened}
+use Rattle.ring_world.specs.Worlds.{IsWorld, by_log}
 use Rattle.ring_world.proofs.Kept.{new_world}
 use Rattle.ring_world.proofs.Opened.{fresh_sound, none_held, ring_least, ring_most}
 use Rattle.ring_world.proofs.working.Working.new.Goals as goal

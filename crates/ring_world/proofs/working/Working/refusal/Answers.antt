@@ -1,6 +1,6 @@
 use Rattle.std.proofs.Common.{sym, ap, ◌∙◌}
 use Rattle.ring_records.specs.declared.refusal.Refusal.TheVariants.{Failed, Limit}
-use Rattle.ring_records.specs.Allowed.{where_so}
+use Rattle.ring_records.specs.Objection.{where_so}
 use Rattle.ring_records.specs.Lists.{or_else}
 use Rattle.ring_world.specs.Ring.{is_full}
 use Rattle.ring_world.specs.State.{State}

@@ -1,6 +1,6 @@
 use Rattle.std.proofs.Common.{◌≡◌, ◌+◌, ◌-◌, ◌≤◌}
 use Rattle.ring_world.specs.Ring.{swept}
-use Rattle.ring_world.specs.State.{IsSameState}
+use Rattle.ring_world.specs.Left.{IsSameState}
 use Rattle.ring_world.proofs.working.Working.sweep.Given as goal
 
 -- what was delivered and what is left make the whole

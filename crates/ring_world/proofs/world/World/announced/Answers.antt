@@ -2,10 +2,10 @@ use Rattle.std.proofs.Common.{◌≡◌, ap, ◌∙◌, subst}
 use Rattle.std.specs.List.{Contains}
 use Rattle.ring_records.specs.declared.key.Key.{Key}
 use Rattle.ring_world.specs.Announced.{announced}
-use Rattle.ring_world.specs.Capacity.{within}
+use Rattle.ring_world.specs.Capacity.{within, all_fresh}
 use Rattle.ring_world.specs.Released.{IsAnnounced}
-use Rattle.ring_world.specs.Start.{all_fresh}
-use Rattle.ring_world.specs.State.{State, IsWorld}
+use Rattle.ring_world.specs.State.{State}
+use Rattle.ring_world.specs.Worlds.{IsWorld}
 use Rattle.ring_world.proofs.Named.{announced_is}
 use Rattle.ring_world.proofs.world.World.announced.Goals as goal
 use Rattle.ring_world.proofs.world.World.announced.Goals.{In_ok-list}

@@ -4,7 +4,7 @@ use Rattle.ring_records.specs.declared.refusal.Refusal.{Refusal}
 use Rattle.ring_audit.specs.Placement.{lists}
 use Rattle.ring_world.specs.Dropped.{first_dropped, withheld}
 use Rattle.ring_world.specs.Stage.{state_of}
-use Rattle.ring_world.specs.State.{IsWorld}
+use Rattle.ring_world.specs.Worlds.{IsWorld}
 use Rattle.ring_world.proofs.Histories.{world_shape, withheld_is}
 use Rattle.ring_world.proofs.world.World.histories.Goals as goal
 use Rattle.ring_world.proofs.world.World.histories.Goals.{After-histories}

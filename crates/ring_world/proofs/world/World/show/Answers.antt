@@ -1,7 +1,8 @@
 use Rattle.std.proofs.Common.{◌≡◌, ap, sym, subst, ◌∙◌}
 use Rattle.ring_records.specs.declared.shown.Shown.{Shown}
 use Rattle.ring_world.specs.Stage.{state_of}
-use Rattle.ring_world.specs.State.{State, IsWorld}
+use Rattle.ring_world.specs.State.{State}
+use Rattle.ring_world.specs.Worlds.{IsWorld}
 use Rattle.ring_world.proofs.Rest.{at_node}
 use Rattle.ring_world.proofs.world.World.show.Goals as goal
 

@@ -1,5 +1,6 @@
 use Rattle.std.proofs.Common.{arith, ap, subst}
-use Rattle.ring_world.specs.State.{State, IsWorld}
+use Rattle.ring_world.specs.State.{State}
+use Rattle.ring_world.specs.Worlds.{IsWorld}
 use Rattle.ring_world.proofs.world.World.size.Goals as goal
 
 pub returns-clause-range : goal.returns-clause-range

@@ -1,5 +1,6 @@
 use Rattle.std.proofs.Common.{◌≡◌, ◌+◌, ◌≤◌, IfOk, OnOk, length, sym, subst, ap, ◌∙◌}
-use Rattle.ring_world.specs.State.{State, IsWorld}
+use Rattle.ring_world.specs.State.{State}
+use Rattle.ring_world.specs.Worlds.{IsWorld}
 use Rattle.ring_world.specs.Stage.{state_of}
 use Rattle.ring_world.specs.declared.world.Stage.{Stage}
 use Rattle.ring_world.proofs.Kept.{Moved, moved}
