@@ -4,7 +4,7 @@ ghost use Rattle.gated_journal.specs.Journal.{member_of, len_of, room_of, layout
 ghost use Rattle.ring_records.specs.Admission.{used};
 ghost use Rattle.ring_records.specs.States.{durable_in};
 ghost use Rattle.node_core.specs.Core.{IsNodeOf};
-ghost use Rattle.commit_hub.specs.Desks.{is_over};
+ghost use Rattle.commit_hub.specs.Over.{is_over};
 ghost use Rattle.commit_hub.specs.Pages.{places_of, ForAccepted, ForTie};
 
 use crate::devices::{CAPACITY, in_memory, next_file};

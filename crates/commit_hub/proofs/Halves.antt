@@ -13,7 +13,8 @@ use types.Growing.{latest_new, latest_grows, latest_shows, latest_bounds, latest
 use types.Kit.{‵, raw, ◌⊛◌, some, given, later, ◌$◌, ◌∵◌, !, qed, move, split, learn, suffices, done, use0, use1, use2, settle, check, await, updating, keep, fsplit, fjoin, now, show, rewrite, pick}
 use types.Tokens.{name_new}
 use Rattle.ring_records.specs.declared.input.Input.{Input}
-use Rattle.commit_hub.specs.Tied.{Names, TieView, coded_view, histories, held_owns, known_owns, begun_owns, nothing as none_durable}
+use Rattle.commit_hub.specs.Tied.{coded_view, histories, held_owns, known_owns, begun_owns, nothing as none_durable}
+use Rattle.commit_hub.specs.Ties.{Names, TieView}
 
 module _ {M : Type 1} {𝓤 : Ura M} (𝓛 : Logic 𝓤) where
   open 𝓛 use {H, A}

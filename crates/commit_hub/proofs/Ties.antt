@@ -16,13 +16,15 @@ use Rattle.ring_records.proofs.Lists.{none≢some}
 use Rattle.ring_records.proofs.States.{idle-none}
 use Rattle.gated_journal.specs.Batch.{Numbered, numbered_with}
 use Rattle.gated_journal.specs.declared.work.Work.{Work}
-use Rattle.group_commit.specs.Desk.{DeskKept, DeskView, IsFlying, known_all, landed, launched}
+use Rattle.group_commit.specs.Desk.{DeskKept, DeskView, known_all, landed, launched}
+use Rattle.group_commit.specs.DeskCalls.{IsFlying}
 use Rattle.group_commit.specs.Launching.{launch_objection, launched_all, needs_checkpoint, is_checkpoint_next, launched_next, IsNoWork, IsUnlaunched, IsWorkOf}
 use Rattle.group_commit.specs.Next.{is_to_make_room}
 use Rattle.group_commit.proofs.Checkpoints.{idle_free}
 use Rattle.group_commit.proofs.Costs.{launched_counts}
-use Rattle.commit_hub.specs.Desks.{flies, flying_part, has_waiting, is_done, is_over, is_resting, launch_refusal}
-use Rattle.commit_hub.specs.Works.{flown_by, summary_by}
+use Rattle.commit_hub.specs.Desks.{flying_part, has_waiting, is_done, is_resting}
+use Rattle.commit_hub.specs.Over.{flies, launch_refusal, is_over}
+use Rattle.gated_journal.specs.Works.{flown_by, summary_by}
 
 -- ---- what flies
 

@@ -15,12 +15,11 @@ use Rattle.ring_records.proofs.States.{idle-none}
 use Rattle.gated_journal.specs.declared.work.Work.{Work}
 use Rattle.group_commit.specs.Desk.{DeskKept, landed, launched}
 use Rattle.group_commit.specs.Launching.{next_area, launch_objection, launched_all, is_checkpoint_next, launched_next, IsFitting, IsNoWork, IsWorkOf}
-use Rattle.group_commit.specs.Next.{IsNext}
+use Rattle.group_commit.specs.Next.{IsNext, Durable, durable_part, with_area, with_batch}
 use Rattle.group_commit.proofs.Checkpoints.{idle_free, none_pending}
 use Rattle.group_commit.proofs.KeptInputs.{after-inputs}
 use Rattle.group_commit.proofs.Costs.{base_stays, flown, launched_counts}
 use Rattle.commit_hub.specs.Works.{IsNextArea}
-use Rattle.commit_hub.specs.Tied.{Durable, durable_part, with_area, with_batch}
 
 -- ---- what is told of an option
 

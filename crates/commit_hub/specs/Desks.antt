@@ -1,17 +1,12 @@
 -- What a hub reads of its desk.
-use Rattle.std.specs.Prelude.{ℕ, ◌+◌, Bool, not, ◌||◌, ◌&&◌, nat_eq, nat_le, nat_lt, if◌then◌else◌, length, Option, Some, None, is_some}
+use Rattle.std.specs.Prelude.{ℕ, ◌+◌, Bool, not, ◌||◌, ◌&&◌, nat_eq, nat_le, nat_lt, length}
 use Rattle.std.specs.Option.{option_map}
 use Rattle.ring_records.specs.declared.base.Base.{Base}
-use Rattle.ring_records.specs.declared.refusal.Refusal.{Refusal}
-use Rattle.ring_records.specs.declared.refusal.Refusal.TheVariants as refused
 use Rattle.ring_records.specs.States.{flying_in}
 use Rattle.gated_journal.specs.Batch.{Numbered, numbered_with}
 use Rattle.group_commit.specs.Desk.{DeskKept}
 use Rattle.group_commit.specs.Next.{is_to_make_room}
-
--- it takes no requests: it is closed or has failed
-abbrev pub is_over : DeskKept → Bool
-is_over desk = desk.view.closed || desk.view.failed
+use Rattle.commit_hub.specs.Over.{is_over}
 
 -- an input waits or flies
 abbrev pub has_waiting : DeskKept → Bool
@@ -34,11 +29,3 @@ is_done desk = desk.view.closed && not (has_waiting desk)
 -- its inputs that fly, with the length of the snapshot where they do as a checkpoint
 abbrev pub flying_part : DeskKept → Numbered
 flying_part desk = numbered_with desk.view.member.node (desk.opening.inputs + desk.view.state.durable) (flying_in desk.view.state) (option_map (λ (b : Base). b.bytes) desk.view.state.checkpoint)
-
--- something flies
-abbrev pub flies : Numbered → Bool
-flies flown = nat_lt 0 (length flown.inputs) || is_some flown.snapshot
-
--- why nothing is launched where this flies, before memory is asked for: the desk has failed, or something flies
-abbrev pub launch_refusal : Bool → Numbered → Option Refusal
-launch_refusal failed flown = if failed then Some refused.Failed else (if flies flown then Some refused.Busy else None)

@@ -6,12 +6,13 @@ use Rattle.ring_records.specs.declared.input.Input.{Input}
 use Rattle.ring_records.specs.declared.refusal.Refusal.{Refusal}
 use Rattle.ring_records.specs.declared.refusal.Refusal.TheVariants as refused
 use Rattle.group_commit.specs.Desk.{DeskKept}
-use Rattle.commit_hub.specs.Desks.{launch_refusal}
+use Rattle.commit_hub.specs.Over.{launch_refusal}
 use Rattle.commit_hub.specs.declared.ledgers.NodeLedger as node
 use Rattle.commit_hub.specs.declared.share.Begun.{Begun}
 use Rattle.commit_hub.specs.declared.share.Share.{Share}
 use Rattle.commit_hub.specs.declared.share.Tie.{Tie}
-use Rattle.commit_hub.specs.Tied.{Durable, TieView}
+use Rattle.group_commit.specs.Next.{Durable}
+use Rattle.commit_hub.specs.Ties.{TieView}
 
 module _ {A : Type 0} {a : node.Ghosts A} where
   -- the inputs that its holder submitted and the desk accepted

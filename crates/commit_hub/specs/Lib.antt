@@ -1,7 +1,10 @@
 pub mod Desks
 pub mod Holders
+pub mod Over
 pub mod Pages
 pub mod Props
+pub mod Stances
 pub mod Tied
+pub mod Ties
 pub mod Told
 pub mod Works

@@ -1,7 +1,7 @@
 -- What a hub is made of.
 use Rattle.std.specs.Prelude.{ℕ, ◌≡◌}
 use Rattle.commit_hub.specs.declared.blanks.Blanks.{Blanks}
-use Rattle.commit_hub.specs.Tied.{Names}
+use Rattle.commit_hub.specs.Ties.{Names}
 
 -- how many shares the hub can give
 abbrev pub places_of : Blanks → ℕ

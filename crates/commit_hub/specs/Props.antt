@@ -7,7 +7,9 @@ use Rattle.ring_records.specs.Member.{Member}
 use Rattle.ring_records.specs.States.{NodeState}
 use Rattle.ring_records.specs.Codes.{coded_summary}
 use Rattle.gated_journal.specs.Batch.{Numbered}
-use Rattle.commit_hub.specs.Tied.{Durable, Names, TieView, coded_durable, coded_flying, coded_names, coded_view}
+use Rattle.group_commit.specs.Next.{Durable}
+use Rattle.commit_hub.specs.Tied.{coded_durable, coded_flying, coded_names, coded_view}
+use Rattle.commit_hub.specs.Ties.{Names, TieView}
 use Rattle.commit_hub.specs.Works.{IsNextArea}
 
 members : IsSet Member

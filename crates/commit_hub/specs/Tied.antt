@@ -1,5 +1,5 @@
--- What a hub's tie knows of its desk, and what a token of its history names.
-use Rattle.std.specs.Prelude.{ℕ, Bool, false, List, [], None}
+-- What a hub's tie knows of its desk, and what the halves of that and the tokens of its history own.
+use Rattle.std.specs.Prelude.{ℕ, false, List, []}
 use Rattle.std.specs.Coded.{Coded, codes}
 use base.Fml.{Fml, fsep, fobs, fauth}
 use base.Growing.{Order, prefixes, latest, at_least}
@@ -7,22 +7,10 @@ use base.Share.{quarter, three_quarters}
 use Rattle.ring_records.specs.declared.input.Input.{Input}
 use Rattle.ring_records.specs.Admission.{fresh}
 use Rattle.gated_journal.specs.Batch.{Numbered, numbered}
-pub use Rattle.group_commit.specs.Next.{Durable, durable_part, with_area, with_batch}
+use Rattle.group_commit.specs.Next.{Durable, durable_part}
 use Rattle.group_commit.specs.Desk.{DeskKept}
 use Rattle.commit_hub.specs.Desks.{flying_part, is_done}
-
--- which value it is that both halves know, and which list its inputs are
-pub record Names : Type 0 where
-  pub value : ℕ
-  pub history : ℕ
-
--- What is durable; what flies, from its launch until it lands; whether the hub has failed; and whether it was seen closed with
--- all that it accepted durable, which stays so.
-pub record TieView : Type 0 where
-  pub durable : Durable
-  pub flying : Numbered
-  pub failed : Bool
-  pub done : Bool
+use Rattle.commit_hub.specs.Ties.{Names, TieView}
 
 -- all this of a desk
 abbrev pub part_of : DeskKept → TieView

@@ -1,8 +1,7 @@
 -- What a hub's calls tell without the state under its lock.
-use Rattle.std.specs.Prelude.{ℕ, ◌≡◌, ◌+◌, ◌*◌, ◌⊎◌, ◌&&◌, not, nat_le, nat_lt, Bool, true, false, List, [], ◌++◌, length}
+use Rattle.std.specs.Prelude.{ℕ, ◌≡◌, ◌+◌, ◌⊎◌, Bool, true, false, List, [], ◌++◌, length}
 use Rattle.std.specs.FinMap as fin
 use Rattle.ring_records.specs.declared.input.Input.{Input}
-use Rattle.ring_records.specs.declared.limits.TheConstants.{INPUT_BYTES}
 use Rattle.ring_records.specs.declared.packet.Packet.{Packet}
 use Rattle.ring_records.specs.declared.refusal.Refusal.{Refusal}
 use Rattle.ring_records.specs.declared.refusal.Refusal.TheVariants as refused
@@ -96,16 +95,6 @@ room_of is_wanted desk = record { is_due = is_due desk; frees = frees_room desk;
 
 abbrev pub room_in : Look → Room
 room_in look = record { is_due = look.is_due; frees = look.frees_room; is_coming = look.is_room_coming }
-
--- A node takes a Stand that leaves the reserve, an eighth of its capacity, free behind a checkpoint of all that it accepted: the Stand
--- and the two messages of its election take an input's bytes each at most.
-abbrev pub takes_stands : Look → Bool
-takes_stands look = nat_le (8 * (look.snapshot + 3 * INPUT_BYTES)) (7 * look.capacity)
-
--- A message is taken where it leaves a sixteenth of the capacity free, or a checkpoint would make room. So Retires find a sixteenth,
--- and none of a Stand that the node has makes the snapshot longer: they take it, and a checkpoint frees as much.
-abbrev pub lacks_room : Look → Bool
-lacks_room look = not look.is_due && not look.frees_room && nat_lt (15 * look.capacity) (16 * (look.used + INPUT_BYTES))
 
 -- This is what is shown of the node in some state since its opening: how many inputs it has and how many are durable,
 -- those that are summarised among them, and the bytes that are taken. Behind each past that the opening is of the state

@@ -6,8 +6,6 @@ use Rattle.ring_records.specs.Admission.{newest}
 use Rattle.gated_journal.specs.declared.work.Work.{Work}
 use Rattle.gated_journal.specs.declared.work.Work.TheVariants as works
 use Rattle.ring_records.specs.States.{NodeState}
-pub use Rattle.gated_journal.specs.Works.{flown_by, summary_by}
-pub use Rattle.group_commit.specs.Next.{FliesLawfully, IsLawfulBehind, IsNext, flying_behind}
 
 -- the area of a checkpoint that flies is the next one
 abbrev pub IsNextArea : NodeState → Type 0

@@ -9,12 +9,12 @@ ghost use Rattle.group_commit.specs.Desk.{IsAnswer, seen};
 ghost use Rattle.node_core.specs.Core.{IsNodeOf};
 ghost use Rattle.group_commit.specs.Past.{IsPast};
 ghost use Rattle.group_commit.specs.Ticket.{shown};
-ghost use Rattle.commit_hub.specs.Desks.{is_over};
+ghost use Rattle.commit_hub.specs.Over.{is_over};
 ghost use Rattle.commit_hub.specs.Holders.{begun_by, count_of, known_by, objection_to, view_by, IsNotLaunched};
 ghost use Rattle.commit_hub.specs.Pages.{ForAccepted, ForTie};
-ghost use Rattle.commit_hub.specs.Tied.{durable_part, with_batch, with_area};
+ghost use Rattle.group_commit.specs.Next.{durable_part, with_batch, with_area, IsNext};
 ghost use Rattle.commit_hub.specs.Told.{IsUnasked, IsBrought, IsLook, IsWindow};
-ghost use Rattle.commit_hub.specs.Works.{IsNext, flown_by};
+ghost use Rattle.gated_journal.specs.Works.{flown_by};
 
 use crate::blanks::Blanks;
 use crate::ledgers::NodeLedger;

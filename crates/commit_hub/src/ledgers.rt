@@ -3,7 +3,7 @@ ghost use Rattle.std.specs.Prelude.{ℕ};
 ghost use Rattle.ring_records.specs.declared.summary.Summary.{Summary};
 ghost use Rattle.ring_records.specs.Member.{Member};
 ghost use Rattle.ring_records.specs.Summary.{empty};
-ghost use Rattle.commit_hub.specs.Tied.{Names};
+ghost use Rattle.commit_hub.specs.Ties.{Names};
 
 use std::marker::Brand;
 use std::sync::ledger::Ledger;

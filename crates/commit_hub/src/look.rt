@@ -1,6 +1,6 @@
 //! What a hub shows of its node.
 ghost use Rattle.std.specs.Prelude.{◌≡◌};
-ghost use Rattle.commit_hub.specs.Told.{lacks_room, takes_stands};
+ghost use Rattle.commit_hub.specs.Stances.{lacks_room, takes_stands};
 
 use ring_records::{INPUT_BYTES, Shown};
 

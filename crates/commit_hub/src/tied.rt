@@ -3,7 +3,9 @@
 ghost use Rattle.std.specs.Prelude.{◌≡◌, ℕ, List};
 ghost use mathlib.Core.List.{IsPrefix};
 ghost use Rattle.ring_records.specs.declared.input.Input.{Input};
-ghost use Rattle.commit_hub.specs.Tied.{Names, TieView, coded_inputs, coded_names, coded_view, begun_owns, durable_part, held_owns, known_owns, nothing, part_of};
+ghost use Rattle.commit_hub.specs.Tied.{coded_inputs, coded_names, coded_view, begun_owns, held_owns, known_owns, nothing, part_of};
+ghost use Rattle.commit_hub.specs.Ties.{Names, TieView};
+ghost use Rattle.group_commit.specs.Next.{durable_part};
 
 use group_commit::Desk;
 use std::marker::{Model, PhantomData};

@@ -1,10 +1,7 @@
 -- What contracts see of a board and of a reader.
-use Rattle.std.specs.Prelude.{ℕ, ◌≡◌, ◌+◌, ◌-◌, ◌^◌, ◌<◌, ◌≤◌, min, List, Option, Result, Ok, Err}
+use Rattle.std.specs.Prelude.{ℕ, ◌+◌, ◌-◌, ◌^◌, ◌≤◌, min, List}
 use Rattle.std.specs.List.{flat_map}
-use Rattle.ring_records.specs.declared.candidate.Candidate.{Candidate}
-use Rattle.ring_records.specs.declared.key.Key.{Key}
 use Rattle.ring_records.specs.declared.notice.Notice.{Notice}
-use Rattle.ring_records.specs.Notices.{floor_in, leader_in}
 
 -- of a board: what readers take, in order; what was appended since; and how many growths were refused, where 2^64 - 1
 -- stands for more, too
@@ -28,15 +25,3 @@ in_rounds rounds = flat_map (λ round. round) rounds
 pub record LackedMemory (old new : BoardView) : Type 0 where
   pub later : refusals old ≤ refusals new
   pub rises : min (refusals old + 1) (2 ^ 64 - 1) ≤ refusals new
-
--- the list that a reader saw last; and the longest that it learned
-abbrev pub seen : List Notice × List Notice → List Notice
-seen reader = reader.0
-
-abbrev pub learned : List Notice × List Notice → List Notice
-learned reader = reader.1
-
--- What the list says of the key: its leader, if it has one, or the floor that it is below.
-abbrev pub IsWho : List Notice → Key → Result (Option Candidate) ℕ → Type 0
-IsWho ns key (Ok leader) = (leader ≡ leader_in ns key) × (floor_in ns key.group ≤ key.term)
-IsWho ns key (Err floor) = (floor ≡ floor_in ns key.group) × (key.term < floor)

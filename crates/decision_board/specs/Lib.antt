@@ -3,4 +3,5 @@ pub mod History
 pub mod Leaders
 pub mod Next
 pub mod Posts
+pub mod Readers
 pub mod Stores

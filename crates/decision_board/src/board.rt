@@ -2,7 +2,8 @@
 ghost use Rattle.std.specs.Prelude.{◌≡◌, ◌+◌, ◌-◌, ◌^◌, ◌≤◌, nat_le, ◌&&◌, ◌++◌, ◌∷◌, [], min, drop, MatchResult, OnOk, IfOk, IfErr};
 ghost use mathlib.Core.List.{IsPrefix};
 ghost use Rattle.ring_records.specs.declared.refusal.Refusal.TheVariants.{OutOfMemory, NoPlace};
-ghost use Rattle.decision_board.specs.Boards.{published, pending, refusals, LackedMemory, seen, learned};
+ghost use Rattle.decision_board.specs.Boards.{published, pending, refusals, LackedMemory};
+ghost use Rattle.decision_board.specs.Readers.{seen, learned};
 ghost use Rattle.decision_board.specs.Posts.{IsPosted};
 ghost use Rattle.decision_board.specs.Stores.{GoOn, notices_of, state_of};
 

@@ -7,7 +7,7 @@ ghost use Rattle.ring_records.specs.Latest.{IsLatest};
 ghost use Rattle.ring_records.specs.declared.candidate.Candidate.{Candidate};
 ghost use Rattle.ring_records.specs.declared.refusal.Refusal.TheVariants.{NoPlace, Retired};
 ghost use Rattle.decision_board.specs.Next.{IsNext};
-ghost use Rattle.decision_board.specs.Boards.{seen, learned, IsWho};
+ghost use Rattle.decision_board.specs.Readers.{seen, learned, IsWho};
 
 use crate::history::{Front, Naming};
 use crate::rule::{Posted, Sees};

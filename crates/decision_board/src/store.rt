@@ -4,7 +4,7 @@ ghost use Rattle.std.specs.FinMap as map;
 ghost use Rattle.ring_records.specs.Notices.{leads_in};
 ghost use Rattle.ring_records.specs.Latest.{IsLatest};
 ghost use Rattle.ring_records.specs.declared.notice.Notice.TheVariants.{Decided, Retired};
-ghost use Rattle.decision_board.specs.Boards.{IsWho};
+ghost use Rattle.decision_board.specs.Readers.{IsWho};
 ghost use Rattle.decision_board.specs.Leaders.{AreOf, floor_of, reaches, taken_in};
 ghost use Rattle.decision_board.specs.Next.{IsNext};
 ghost use Rattle.decision_board.specs.Stores.{after, state_of};

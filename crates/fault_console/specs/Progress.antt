@@ -1,7 +1,7 @@
 -- What the printing functions add to a text.
 use Rattle.std.specs.Prelude.{◌≡◌, ℕ, List, length, Option, Some, None}
 use Rattle.ring_world.specs.State.{State}
-use Rattle.line_words.specs.Texts.{AddsLines}
+use Rattle.line_words.specs.Added.{AddsLines}
 
 -- n lines are added, of which P holds
 abbrev pub Does : List ℕ → List ℕ → ℕ → (List (List ℕ) → Type 0) → Type 0

@@ -1,6 +1,6 @@
 // The lines that a line of the script prints.
 ghost use Rattle.std.specs.Prelude.{◌≡◌, ◌≤◌, ◌+◌, ◌<◌, ◌^◌, ◌∷◌, ◌++◌, [], OnOk, string_bytes, length, map};
-ghost use Rattle.line_words.specs.Texts.{AddsLine, AddsLines};
+ghost use Rattle.line_words.specs.Added.{AddsLine, AddsLines};
 ghost use Rattle.ring_world.specs.Step.{told};
 ghost use Rattle.fault_console.specs.Script.{ring_line, reply_line, sealed_line, lost_line, up_line, flushed_line, checkpointed_line, delivered_line, show_line, audit_line, is_answered, sealed_of, sealed_lines, lines_told};
 

@@ -1,10 +1,7 @@
 -- What a batch, a checkpoint, a receipt and a spoiled batch show.
-use Rattle.std.specs.Prelude.{ℕ, Bool, ◌&&◌, nat_le, if◌then◌else◌, List, Option, None, Some, is_some}
+use Rattle.std.specs.Prelude.{ℕ, Bool, List, Option, None, Some, is_some}
 use Rattle.ring_records.specs.Admission.{newest}
 use Rattle.ring_records.specs.declared.input.Input.{Input}
-use Rattle.ring_records.specs.declared.limits.TheConstants.{BATCH_INPUTS}
-use Rattle.ring_records.specs.declared.refusal.Refusal.{Refusal}
-use Rattle.ring_records.specs.declared.refusal.Refusal.TheVariants as refused
 use Rattle.ring_records.specs.declared.summary.Summary.{Summary}
 use Rattle.ring_records.specs.Snapshot.{snapshot_len}
 use Rattle.gated_journal.specs.declared.batch.Batch.{Batch}
@@ -51,11 +48,3 @@ numbered_by checkpoint = numbered_with checkpoint.flown.node checkpoint.flown.fi
 -- the summary that it makes durable
 abbrev pub base_by : Checkpoint → Summary
 base_by checkpoint = checkpoint.base
-
--- how many inputs a batch may have
-abbrev pub is_size : ℕ → Bool
-is_size n = nat_le 1 n && nat_le n BATCH_INPUTS
-
--- why there is no batch of so many inputs
-abbrev pub batch_refusal : ℕ → Refusal
-batch_refusal n = if is_size n then refused.OutOfMemory else refused.BadNumber

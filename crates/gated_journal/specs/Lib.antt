@@ -16,6 +16,7 @@ pub mod Pieces
 pub mod Place
 pub mod Props
 pub mod Reading
+pub mod Sizes
 pub mod Unread
 pub mod WorkTaken
 pub mod Works

@@ -22,7 +22,8 @@ pub struct Batch {
 }
 
 impl Batch {
-    ghost use Rattle.gated_journal.specs.Batch.{is_size, batch_refusal, numbered, shown};
+    ghost use Rattle.gated_journal.specs.Batch.{numbered, shown};
+    ghost use Rattle.gated_journal.specs.Sizes.{is_size, batch_refusal};
 
     /// The inputs of this node from number `first` on, counted from 0. Refused as 2 where there are not 1 to 64 of
     /// them; and as 8.

@@ -16,7 +16,8 @@ pub struct Flown {
 }
 
 impl Flown {
-    ghost use Rattle.gated_journal.specs.Batch.{is_checkpoint, is_size, kept_in, numbered_with};
+    ghost use Rattle.gated_journal.specs.Batch.{is_checkpoint, kept_in, numbered_with};
+    ghost use Rattle.gated_journal.specs.Sizes.{is_size};
 
     /// The node whose inputs they are.
     pub fn node(&self) -> NodeNo

@@ -18,7 +18,8 @@ use Rattle.ring_records.proofs.Lists.{none≢some}
 use Rattle.node_core.specs.Core.{CoreView, IsNodeOf}
 use Rattle.group_commit.specs.Inputs.{IsKept, KeepsMarks}
 use Rattle.group_commit.specs.Kept.{state_with}
-use Rattle.group_commit.specs.Since.{IsKnownState, core_in}
+use Rattle.group_commit.specs.Since.{IsKnownState}
+use Rattle.group_commit.specs.CoreOf.{core_in}
 use Rattle.group_commit.specs.Vouch.{IsInput}
 use Rattle.group_commit.specs.declared.inputs.Inputs.{Inputs}
 use Rattle.group_commit.proofs.Landing.{part, part-joins}

@@ -28,7 +28,8 @@ use Rattle.ring_records.proofs.Compare.{keys_total, keys_exact}
 use Rattle.ring_records.proofs.Entries.{each-entry}
 use Rattle.ring_records.proofs.StatesInOrder.{IsOwn, sorted-own}
 use Rattle.ring_records.proofs.Summaries.{get-states, is_known, unknown-leader}
-use Rattle.group_commit.specs.Content.{led, leaders_in, retired_all, content_of, IsContent}
+use Rattle.group_commit.specs.Content.{retired_all, content_of, IsContent}
+use Rattle.group_commit.specs.Leads.{led, leaders_in}
 
 -- ---- the states of a history
 

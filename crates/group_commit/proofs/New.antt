@@ -18,7 +18,8 @@ use Rattle.ring_records.proofs.Lists.{none≢some}
 use Rattle.ring_records.proofs.Iteration.{IsItem, cut-item}
 use Rattle.ring_records.proofs.Sound.{summary-none}
 use Rattle.group_commit.specs.Desk.{DeskKept, seen}
-use Rattle.group_commit.specs.Opening.{opened_core, core_after, IsUnlawful, IsOf}
+use Rattle.group_commit.specs.Opening.{opened_core, core_after, IsUnlawful}
+use Rattle.group_commit.specs.CoreOf.{IsOf}
 use Rattle.group_commit.specs.Past.{IsPast, moved, shifted}
 use Rattle.group_commit.proofs.Past.{follows, free_since, refused-is, room-moved}
 use Rattle.group_commit.proofs.Since.{lawful_opened, room-since}

@@ -16,7 +16,8 @@ use Rattle.ring_records.proofs.Admission.{or_else-none}
 use Rattle.ring_records.proofs.Growth.{EachAfter-front}
 use Rattle.ring_records.proofs.Lists.{EachAfter-push, none≢some}
 use Rattle.ring_records.proofs.Iteration.{IsItem, take-item}
-use Rattle.node_core.specs.Core.{CoreView, Refuses, taking}
+use Rattle.node_core.specs.Core.{CoreView, Refuses}
+use Rattle.node_core.specs.FreeCore.{taking}
 use Rattle.group_commit.specs.Opening.{core_after, IsOpenTo, IsKnownLawful}
 use Rattle.group_commit.specs.Outbox.{AreFree}
 use Rattle.group_commit.proofs.Settling.{after-push}

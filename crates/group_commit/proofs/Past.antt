@@ -47,10 +47,10 @@ use Rattle.node_core.specs.Brought.{brought, who_after, who_by}
 use Rattle.node_core.specs.Core.{CoreView, Refuses}
 use Rattle.node_core.specs.declared.effects.Effects.{Effects}
 use Rattle.node_core.proofs.Histories.{carries, leads_last, tells, who_known}
-use Rattle.group_commit.specs.Opening.{IsOf}
+use Rattle.group_commit.specs.CoreOf.{IsOf, core_in}
 use Rattle.group_commit.specs.Replying.{Replies, who_reply}
 use Rattle.group_commit.specs.Past.{IsPast, moved, shifted}
-use Rattle.group_commit.specs.Since.{IsOpenSince, IsLawfulSince, IsAreaOf, IsKnownState, core_in}
+use Rattle.group_commit.specs.Since.{IsOpenSince, IsLawfulSince, IsAreaOf, IsKnownState}
 use Rattle.group_commit.specs.Ticket.{answered_with}
 use Rattle.group_commit.specs.Outbox.{AreFree, brought_after}
 use Rattle.group_commit.proofs.Opening.{EachAfter-from}

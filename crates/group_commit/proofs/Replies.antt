@@ -8,6 +8,7 @@ use Rattle.ring_records.specs.declared.input.Input.{Input}
 use Rattle.ring_records.specs.declared.request.Request.{Request}
 use Rattle.ring_records.specs.declared.summary.Summary.{Summary}
 use Rattle.ring_records.specs.Lawful.{IsBaseOf, IsLawful, IsLawfulState}
+use Rattle.ring_records.specs.Admission.{shortage}
 use Rattle.ring_records.specs.Answer.{Answer, Answered}
 use Rattle.ring_records.specs.Answering.{Answers, answer, gained}
 use Rattle.ring_records.specs.Member.{Member}
@@ -63,9 +64,9 @@ answer_now m past s q a more lawful is gains =
 answer_longer : (m : Member) (past inputs more : List Input) (a : Answered) → IsAnswer m past inputs a → IsAnswer m past (inputs ++ more) a
 answer_longer m past inputs more a is =
     let h = past ++ inputs in
-    let at = longer_at m.node m.n m.capacity is.base h a.question a.answer is.gives more in
+    let at = longer_at m.node m.n (shortage m.node m.capacity is.base) h a.question a.answer is.gives more in
     answer_by m past (inputs ++ more) is.base a (subst (Gives m (length past) is.base a) (append_assoc past inputs more) (
-      longer m.node m.n m.capacity is.base h a.question a.answer is.gives more,
+      longer m.node m.n (shortage m.node m.capacity is.base) h a.question a.answer is.gives more,
       subst (λ (k : ℕ). length past ≤ k) at.0 is.behind,
       subst (IsBaseOf m.node is.base) at.1 is.based,
       subst (IsLawful m.node m.n m.capacity is.base) at.1 is.lawful,
@@ -76,9 +77,9 @@ pub answer_durable : (m : Member) (past : List Input) (s : NodeState) (a : Answe
 answer_durable m past s a enough is =
     let h = past ++ s.inputs in
     let k = length past + s.durable in
-    let at = shorter_at m.node m.n m.capacity is.base h a.question a.answer is.gives k enough in
+    let at = shorter_at m.node m.n (shortage m.node m.capacity is.base) h a.question a.answer is.gives k enough in
     answer_by m past (durable_in s) is.base a (subst (Gives m (length past) is.base a) (durable-shifted past s) (
-      shorter m.node m.n m.capacity is.base h a.question a.answer is.gives k enough,
+      shorter m.node m.n (shortage m.node m.capacity is.base) h a.question a.answer is.gives k enough,
       subst (λ (k : ℕ). length past ≤ k) at.0 is.behind,
       subst (IsBaseOf m.node is.base) at.1 is.based,
       subst (IsLawful m.node m.n m.capacity is.base) at.1 is.lawful,

@@ -25,7 +25,8 @@ use Rattle.ring_records.proofs.Growth.{EachAfter-take}
 use Rattle.ring_records.proofs.RetireStep.{after-known}
 use Rattle.ring_records.proofs.Known.{}
 use Rattle.ring_records.proofs.Lists.{none≢some}
-use Rattle.group_commit.specs.Desk.{DeskKept, first_base, seen, submitted, launched, landed, IsSubmitted}
+use Rattle.group_commit.specs.Desk.{DeskKept, first_base, seen, launched, landed, IsSubmitted}
+use Rattle.group_commit.specs.DeskCalls.{submitted}
 use Rattle.group_commit.specs.Launching.{launched_all}
 use Rattle.group_commit.specs.Kept.{state_with}
 use Rattle.group_commit.specs.Opening.{opened_core, IsKnownLawful}

@@ -32,7 +32,8 @@ use Rattle.group_commit.specs.Desk.{DeskKept, epochs}
 use Rattle.group_commit.specs.Launching.{needs_checkpoint, MayRenew}
 use Rattle.group_commit.specs.Kept.{area_behind, state_with}
 use Rattle.group_commit.specs.Opening.{opened_core, core_after, room_past, waits_for_area, IsOpenTo, IsKnownLawful}
-use Rattle.group_commit.specs.Since.{IsOpenSince, IsLawfulSince, IsAreaOf, IsKnownState, core_in}
+use Rattle.group_commit.specs.Since.{IsOpenSince, IsLawfulSince, IsAreaOf, IsKnownState}
+use Rattle.group_commit.specs.CoreOf.{core_in}
 use Rattle.group_commit.proofs.Costs.{used-joined}
 use Rattle.group_commit.proofs.Opening.{objects_none, EachAfter-from}
 use Rattle.group_commit.proofs.Settling.{after-push}

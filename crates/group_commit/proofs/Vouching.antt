@@ -31,7 +31,7 @@ use Rattle.ring_records.proofs.Lists.{none≢some}
 use Rattle.ring_records.proofs.Iteration.{shortage-full}
 use Rattle.std.proofs.lemmas.Bool.{lt-ltb}
 use Rattle.node_core.specs.Brought.{who_by}
-use Rattle.node_core.specs.Core.{FreeView}
+use Rattle.node_core.specs.FreeCore.{FreeView}
 use Rattle.group_commit.specs.Replying.{who_reply}
 use Rattle.group_commit.specs.Past.{shifted}
 use Rattle.group_commit.specs.Vouch.{acceptance, Accepts, IsInput, IsVouched, RepliesFull, refused_or_full}

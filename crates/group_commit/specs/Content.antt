@@ -1,27 +1,14 @@
 -- What a board is made of.
-use Rattle.std.specs.Prelude.{ℕ, ◌≡◌, List, map, ◌++◌, Option}
-use Rattle.std.specs.FinMap as fin
-use Rattle.std.specs.List.{filter_map}
-use Rattle.std.specs.Option.{option_map}
+use Rattle.std.specs.Prelude.{ℕ, ◌≡◌, List, map, ◌++◌}
 use Rattle.ring_records.specs.declared.decision.Decision.{Decision}
 use Rattle.ring_records.specs.declared.input.Input.{Input}
 use Rattle.ring_records.specs.declared.key.Key.{Key}
-use Rattle.ring_records.specs.declared.key_state.KeyState.{KeyState}
 use Rattle.ring_records.specs.declared.notice.Notice.{Notice}
 use Rattle.ring_records.specs.declared.notice.Notice.TheVariants.{Retired}
-use Rattle.ring_records.specs.declared.summary.Summary.{Summary}
 use Rattle.ring_records.specs.Floors.{floor_keys}
 use Rattle.ring_records.specs.Notices.{decided_all}
 use Rattle.ring_records.specs.Release.{AreLeaders}
 use Rattle.ring_records.specs.Summary.{floors_in}
-
--- the decision of a key with a leader
-abbrev pub led : KeyState → Option Decision
-led state = option_map (λ c. record { key = state.key; leader = c }) state.leader
-
--- those that a node knows, in order of key
-abbrev pub leaders_in : Summary → List Decision
-leaders_in s = filter_map led (fin.values s.keys)
 
 -- the notices of these floors
 abbrev pub retired_all : List Key → List Notice

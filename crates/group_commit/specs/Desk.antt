@@ -1,29 +1,25 @@
 -- What a desk is seen as, what its calls make of it, and why they are refused.
-use Rattle.std.specs.Prelude.{ℕ, ◌≡◌, ◌<◌, ◌≤◌, ◌^◌, ◌⊎◌, ◌+◌, ◌-◌, ◌*◌, Bool, false, ◌&&◌, ◌||◌, if◌then◌else◌, List, [], ◌∷◌, ◌++◌, length, take, nat_eq, nat_le, nat_lt, Option, Some, None, is_none}
+use Rattle.std.specs.Prelude.{ℕ, ◌≡◌, ◌<◌, ◌≤◌, ◌^◌, ◌⊎◌, ◌+◌, ◌-◌, ◌*◌, Bool, false, ◌&&◌, ◌||◌, if◌then◌else◌, List, [], ◌∷◌, ◌++◌, length, take, nat_eq, nat_le, nat_lt, Option, Some, None}
 use Rattle.std.specs.List.{cons_option}
 use Rattle.std.specs.Map.{lookup, remove_entry}
-use Rattle.std.specs.Option.{option_map}
 use Rattle.ring_records.specs.declared.base.Base.{Base}
 use Rattle.ring_records.specs.declared.input.Input.{Input}
 use Rattle.ring_records.specs.declared.refusal.Refusal.{Refusal}
 use Rattle.ring_records.specs.declared.refusal.Refusal.TheVariants as refused
 use Rattle.ring_records.specs.declared.request.Request.{Request}
 use Rattle.ring_records.specs.declared.summary.Summary.{Summary}
-use Rattle.ring_records.specs.Admission.{base_of, newest, used}
+use Rattle.ring_records.specs.Admission.{base_of, newest, used, shortage}
 use Rattle.ring_records.specs.Lawful.{IsBaseOf, IsLawful}
 pub use Rattle.ring_records.specs.Admission.{epochs}
-use Rattle.ring_records.specs.Answer.{Answered}
-use Rattle.ring_records.specs.Answering.{Answers}
+use Rattle.ring_records.specs.Answer.{Answered, Answers}
 use Rattle.ring_records.specs.Known.{after}
 use Rattle.ring_records.specs.Member.{Member}
 use Rattle.ring_records.specs.States as states
-use Rattle.ring_records.specs.Serving as serving
-use Rattle.ring_records.specs.States.{NodeState, launched_base, opened, flying_in}
+use Rattle.ring_records.specs.States.{NodeState, launched_base, opened}
 use Rattle.ring_records.specs.Serving.{answered_by, gained_by}
 use Rattle.ring_records.specs.Outside.{is_outside}
 use Rattle.ring_records.specs.Snapshot.{snapshot_len}
 use Rattle.gated_journal.specs.Reading.{Reading}
-use Rattle.gated_journal.specs.Batch.{Numbered}
 use Rattle.node_core.specs.Core.{CoreView}
 use Rattle.group_commit.specs.Opening.{opened_core}
 use Rattle.group_commit.specs.Past.{IsPast, shifted}
@@ -76,10 +72,6 @@ seen past desk = record desk.view { state = shifted past desk.view.state }
 abbrev pub answered : DeskView → Request → Answered
 answered desk q = answered_by desk.member desk.state q
 
--- the ticket that it gives for a request
-abbrev pub ticket_for : Request → DeskView → TicketView
-ticket_for q desk = ticket_with desk.member.node desk.run desk.issued (answered desk q)
-
 -- what is kept for the open ticket of this number
 abbrev pub kept_at : DeskView → ℕ → Option Answered
 kept_at desk own = lookup (nat_eq own) desk.tickets
@@ -92,14 +84,6 @@ pub record IsHere (desk : DeskView) (ticket : TicketView) (kept : Answered) : Ty
   pub question : kept.question ≡ ticket.question
 
 -- ---- what its calls make of it
-
--- it gave a ticket for the request
-abbrev pub submitted : Request → DeskView → DeskView
-submitted q desk = record desk {
-  state = serving.asked desk.member desk.state q;
-  tickets = desk.tickets ++ (desk.issued, answered desk q) ∷ [];
-  issued = desk.issued + 1;
-}
 
 -- what is kept for a new ticket, and the input that is accepted, if there is one
 abbrev pub with_ticket : Answered → Option Input → DeskView → DeskView
@@ -131,10 +115,6 @@ launched desk = record desk { state = states.launched desk.state }
 -- what flies is durable: a batch, or a checkpoint
 abbrev pub landed : DeskView → DeskView
 landed desk = record desk { state = states.landed desk.state }
-
--- it let go of the inputs that the area in use stands for, unless a checkpoint flies
-abbrev pub let_go : DeskKept → DeskKept
-let_go desk = record desk { gone = if is_none desk.view.state.checkpoint then desk.view.state.base.inputs else desk.gone }
 
 -- ---- refusals
 
@@ -169,7 +149,7 @@ frees_room desk =
 -- answer to the request. Room is counted from an area that stands for the first of the inputs up to there, which are lawful by it.
 pub record IsAnswer (member : Member) (past inputs : List Input) (a : Answered) : Type 0 where
   pub base : Base
-  pub gives : Answers member.node member.n member.capacity base (past ++ inputs) a.question a.answer
+  pub gives : Answers member.node member.n (shortage member.node member.capacity base) (past ++ inputs) a.question a.answer
   pub behind : length past ≤ gives.before
   pub based : IsBaseOf member.node base (take gives.before (past ++ inputs))
   pub lawful : IsLawful member.node member.n member.capacity base (take gives.before (past ++ inputs))
@@ -178,13 +158,3 @@ pub record IsAnswer (member : Member) (past inputs : List Input) (a : Answered) 
 pub record IsSealed (desk : DeskKept) (ticket : TicketView) (why : Refusal) : Type 0 where
   pub cause : ((why ≡ refused.Foreign) × ((kept : Answered) → IsHere desk.view ticket kept → ⊥))
       ⊎ ((kept : Answered) × IsHere desk.view ticket kept × (desk.opening.inputs + desk.view.state.durable < kept.answer.number) × (why ≡ (if desk.view.failed then refused.Failed else refused.Early)))
-
--- ---- what flies
-
--- these are the node's inputs that fly, numbered in the whole history, as a batch, or as a checkpoint with a snapshot of
--- this length
-pub record IsFlying (desk : DeskKept) (batch : Numbered) : Type 0 where
-  pub node : batch.node ≡ desk.view.member.node
-  pub first : batch.first ≡ desk.opening.inputs + desk.view.state.durable
-  pub inputs : batch.inputs ≡ flying_in desk.view.state
-  pub snapshot : batch.snapshot ≡ option_map (λ b. b.bytes) desk.view.state.checkpoint

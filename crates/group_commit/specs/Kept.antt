@@ -15,7 +15,8 @@ use Rattle.group_commit.specs.Desk.{IsAnswer}
 use Rattle.group_commit.specs.Inputs.{IsKept}
 use Rattle.group_commit.specs.Outbox.{Holds}
 use Rattle.group_commit.specs.Past.{IsPast}
-use Rattle.group_commit.specs.Since.{IsKnownState, core_in}
+use Rattle.group_commit.specs.Since.{IsKnownState}
+use Rattle.group_commit.specs.CoreOf.{core_in}
 use Rattle.group_commit.specs.declared.inputs.Inputs.{Inputs}
 use Rattle.group_commit.specs.declared.outbox.Outbox.{Outbox}
 

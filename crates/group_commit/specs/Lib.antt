@@ -1,9 +1,12 @@
 pub mod Codes
 pub mod Content
+pub mod CoreOf
 pub mod Desk
+pub mod DeskCalls
 pub mod Inputs
 pub mod Kept
 pub mod Launching
+pub mod Leads
 pub mod Next
 pub mod Opening
 pub mod Outbox

@@ -1,5 +1,5 @@
 -- What a desk knows: by the summary that it was opened with, and by its inputs since. That summary may be that of no history.
-use Rattle.std.specs.Prelude.{ℕ, ◌≡◌, ◌+◌, ◌≤◌, ◌||◌, ◌&&◌, nat_lt, Bool, List, [], length, take, drop, slice_get, Some, None}
+use Rattle.std.specs.Prelude.{ℕ, ◌≡◌, ◌+◌, ◌||◌, ◌&&◌, nat_lt, Bool, List, [], take, drop, slice_get, Some, None}
 use Rattle.std.specs.List.{list_any}
 use Rattle.ring_records.specs.declared.base.Base.{Base}
 use Rattle.ring_records.specs.declared.input.Input.{Input}
@@ -8,11 +8,9 @@ use Rattle.ring_records.specs.declared.refusal.Refusal.TheVariants as refused
 use Rattle.ring_records.specs.declared.room.Room.{Room}
 use Rattle.ring_records.specs.declared.summary.Summary.{Summary}
 use Rattle.ring_records.specs.Admission.{costs_of, is_retire, newest, room_of}
-use Rattle.ring_records.specs.Allowed.{IsAllowed}
 use Rattle.ring_records.specs.Known.{after}
 use Rattle.ring_records.specs.Lists.{EachAfter}
 use Rattle.ring_records.specs.Member.{Member}
-use Rattle.ring_records.specs.Summary.{summary}
 use Rattle.node_core.specs.Core.{CoreView, Refuses}
 
 -- the core of a node that knows this, for which the area stands
@@ -48,10 +46,3 @@ pub record IsUnlawful (core : CoreView) (inputs : List Input) (why : Refusal) : 
   pub there : slice_get inputs index ≡ Some input
   pub refused_for : Refusal
   pub because : Refuses (core_after core (take index inputs)) input (Some refused_for)
-
--- it knows what the history h of its node says, each input of which was allowed, with room counted from the base
-pub record IsOf (core : CoreView) (base : Base) (h : List Input) : Type 0 where
-  pub knows : core.known ≡ summary core.me h
-  pub room : core.room ≡ room_of base h
-  pub within : base.inputs ≤ length h
-  pub allowed : EachAfter (IsAllowed core.me core.size) [] h

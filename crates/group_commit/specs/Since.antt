@@ -10,7 +10,6 @@ use Rattle.ring_records.specs.Known.{Objects, after}
 use Rattle.ring_records.specs.Lists.{EachAfter}
 use Rattle.ring_records.specs.Member.{Member}
 use Rattle.ring_records.specs.States.{NodeState, launched_base, durable_in, flown_in}
-use Rattle.node_core.specs.Core.{CoreView}
 use Rattle.group_commit.specs.Desk.{epochs}
 use Rattle.group_commit.specs.Opening.{waits_for_area}
 
@@ -41,13 +40,3 @@ pub record IsKnownState (m : Member) (opening : Summary) (s : NodeState) : Type 
   pub left : (b : Base) → s.checkpoint ≡ Some b → b.epoch < epochs
   pub fits : (b : Base) → s.checkpoint ≡ Some b → b.bytes ≤ m.capacity
   pub flies : s.checkpoint ≡ None → s.durable < s.flying → waits_for_area s.base (flown_in s) ≡ false
-
--- the core of a node in this state
-abbrev pub core_in : Member → Summary → NodeState → CoreView
-core_in m opening s = record {
-  me = m.node;
-  size = m.n;
-  capacity = m.capacity;
-  known = after m.node opening s.inputs;
-  room = room_of (launched_base s) s.inputs;
-}

@@ -16,7 +16,7 @@ use Rattle.ring_records.specs.Known.{Objects, leads_in}
 use Rattle.ring_records.specs.Latest.{IsLatest}
 use Rattle.ring_records.specs.Member.{Member}
 use Rattle.node_core.specs.Brought.{who_by}
-use Rattle.node_core.specs.Core.{FreeView}
+use Rattle.node_core.specs.FreeCore.{FreeView}
 use Rattle.ring_records.specs.States.{NodeState}
 use Rattle.group_commit.specs.Replying.{who_reply}
 

@@ -7,7 +7,8 @@ ghost use Rattle.ring_records.specs.declared.summary.Summary.{Summary};
 ghost use Rattle.ring_records.specs.Known.{Objects, stepped, after};
 ghost use Rattle.ring_records.specs.Snapshot.{IsSound};
 ghost use Rattle.node_core.specs.Brought.{brought};
-ghost use Rattle.node_core.specs.Core.{Refuses, taking};
+ghost use Rattle.node_core.specs.Core.{Refuses};
+ghost use Rattle.node_core.specs.FreeCore.{taking};
 
 use crate::landed::Landed;
 use crate::released::Released;

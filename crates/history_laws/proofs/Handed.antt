@@ -4,7 +4,6 @@ use Rattle.std.specs.Prelude.{slice_get}
 use Rattle.std.specs.List.{Contains}
 use Rattle.std.proofs.lemmas.List.{append_assoc, take-append-drop}
 use Rattle.std.proofs.lemmas.List.Elements.{Contains-append_left, Contains-push}
-use Rattle.ring_records.specs.declared.base.Base.{Base}
 use Rattle.ring_records.specs.declared.candidate.Candidate.{Candidate}
 use Rattle.ring_records.specs.declared.input.Input.{Input}
 use Rattle.ring_records.specs.declared.input.Input.TheVariants.{Stand, Take, Acked, Retire}
@@ -15,9 +14,7 @@ use Rattle.ring_records.specs.declared.reply.Reply.TheVariants as say
 use Rattle.ring_records.specs.declared.request.Request.TheVariants as ask
 use Rattle.ring_records.specs.Allowed.{IsAllowed}
 use Rattle.ring_records.specs.Objection.{retired}
-use Rattle.ring_records.specs.Answer.{Answer, unless}
-use Rattle.ring_records.specs.Answering.{Answers, reply}
-use Rattle.ring_records.specs.Answer as by_rule
+use Rattle.ring_records.specs.Answer.{Rule, Answer, Answers, unless, reply}
 use Rattle.ring_records.specs.Emission.{sent}
 use Rattle.ring_records.specs.History.{message_of, taken}
 use Rattle.ring_records.specs.Leader.{leader}
@@ -70,10 +67,10 @@ pub shown_in : (n : ℕ) (history : ℕ → List Input) (i : ℕ) (begun rest : 
     → 1 ≤ i → i ≤ n → begun ++ rest ≡ history i → leader i begun key ≡ Some c → IsLeaderIn n history key c
 shown_in n history i begun rest key c low high front leads = record { node = i; low = low; high = high; inputs = begun; rest = rest; front = front; leads = leads }
 
-pub replied_in : (n capacity : ℕ) (history : ℕ → List Input) (i : ℕ) (base : Base) (begun rest : List Input) (key : Key) (c : Candidate) (a : Answer)
-    → 1 ≤ i → i ≤ n → begun ++ rest ≡ history i → Answers i n capacity base begun (ask.Who key) a → a.reply ≡ say.Leader (Some c) → IsLeaderIn n history key c
-unfolding by_rule.reply
-replied_in n capacity history i base begun rest key c a low high front answers says =
+pub replied_in : (n : ℕ) (rule : Rule) (history : ℕ → List Input) (i : ℕ) (begun rest : List Input) (key : Key) (c : Candidate) (a : Answer)
+    → 1 ≤ i → i ≤ n → begun ++ rest ≡ history i → Answers i n rule begun (ask.Who key) a → a.reply ≡ say.Leader (Some c) → IsLeaderIn n history key c
+unfolding reply
+replied_in n rule history i begun rest key c a low high front answers says =
     let upto = take answers.before begun in
     shown_in n history i upto (drop answers.before begun ++ rest) key c low high
     (sym (append_assoc upto (drop answers.before begun) rest) ∙ (ap (λ (l : List Input). l ++ rest) (take-append-drop answers.before begun) ∙ front))

@@ -2,12 +2,11 @@
 //! with an empty body, whose contracts say what follows from the definitions alone. No program calls them.
 //!
 //! Nothing is asked of the order in which things happened: no run, no schedule, no order of messages, no credits. Nor is
-//! any room counted. History i is that of node i, from 1 on.
+//! any room counted: of answers all is said for any rule of room. History i is that of node i, from 1 on.
 #![tactic(auto)]
 
 ghost use Rattle.std.specs.Prelude.{◌≡◌, ◌≢◌, ◌≤◌, ◌++◌, ℕ, List, Some, IsTrue, take};
 ghost use Rattle.std.specs.List.{Contains};
-ghost use Rattle.ring_records.specs.declared.base.Base.{Base};
 ghost use Rattle.ring_records.specs.declared.candidate.Candidate.{Candidate};
 ghost use Rattle.ring_records.specs.declared.input.Input.{Input};
 ghost use Rattle.ring_records.specs.declared.input.Input.TheVariants.{Stand};
@@ -15,8 +14,7 @@ ghost use Rattle.ring_records.specs.declared.key.Key.{Key};
 ghost use Rattle.ring_records.specs.declared.reply.Reply.TheVariants as say;
 ghost use Rattle.ring_records.specs.declared.request.Request.{Request};
 ghost use Rattle.ring_records.specs.declared.request.Request.TheVariants as ask;
-ghost use Rattle.ring_records.specs.Answer.{Answer};
-ghost use Rattle.ring_records.specs.Answering.{Answers};
+ghost use Rattle.ring_records.specs.Answer.{Answer, Answers, Rule};
 ghost use Rattle.ring_records.specs.Leader.{leader};
 ghost use Rattle.ring_records.specs.Order.{is_less};
 ghost use Rattle.ring_records.specs.Ring.{IsLegal};
@@ -46,8 +44,8 @@ pub fn runs_are_linked()
 /// history, tells of a leader that is known there; so does what such a beginning shows.
 pub fn released_histories()
     ensures linked { (n : ℕ) (history : ℕ → List Input) → AreHanded n history → AreLinked n history }
-    ensures replied { (n capacity : ℕ) (history : ℕ → List Input) (i : ℕ) (base : Base) (begun rest : List Input) (key : Key) (c : Candidate) (a : Answer)
-        → 1 ≤ i → i ≤ n → begun ++ rest ≡ history i → Answers i n capacity base begun (ask.Who key) a → a.reply ≡ say.Leader (Some c) → IsLeaderIn n history key c }
+    ensures replied { (n : ℕ) (rule : Rule) (history : ℕ → List Input) (i : ℕ) (begun rest : List Input) (key : Key) (c : Candidate) (a : Answer)
+        → 1 ≤ i → i ≤ n → begun ++ rest ≡ history i → Answers i n rule begun (ask.Who key) a → a.reply ≡ say.Leader (Some c) → IsLeaderIn n history key c }
     ensures shown { (n : ℕ) (history : ℕ → List Input) (i : ℕ) (begun rest : List Input) (key : Key) (c : Candidate)
         → 1 ≤ i → i ≤ n → begun ++ rest ≡ history i → leader i begun key ≡ Some c → IsLeaderIn n history key c }
 {}
@@ -55,8 +53,8 @@ pub fn released_histories()
 /// An answer that was given at some point of a history was given at that point of each longer one, and of each beginning
 /// that has the inputs that the answer rests on.
 pub fn answers_of_beginnings()
-    ensures longer { (me n capacity : ℕ) (base : Base) (h more : List Input) (q : Request) (a : Answer)
-        → Answers me n capacity base h q a → Answers me n capacity base (h ++ more) q a }
-    ensures shorter { (me n capacity k : ℕ) (base : Base) (h : List Input) (q : Request) (a : Answer)
-        → Answers me n capacity base h q a → a.number ≤ k → Answers me n capacity base (take k h) q a }
+    ensures longer { (me n : ℕ) (rule : Rule) (h more : List Input) (q : Request) (a : Answer)
+        → Answers me n rule h q a → Answers me n rule (h ++ more) q a }
+    ensures shorter { (me n k : ℕ) (rule : Rule) (h : List Input) (q : Request) (a : Answer)
+        → Answers me n rule h q a → a.number ≤ k → Answers me n rule (take k h) q a }
 {}

@@ -1,6 +1,6 @@
 // Hubs at their bounds: places, tickets, receipts and shares that are not what they wait for.
 ghost use Rattle.std.specs.Prelude.{◌≡◌, ◌+◌, ◌≤◌, length, None, false};
-ghost use Rattle.commit_hub.specs.Desks.{is_over};
+ghost use Rattle.commit_hub.specs.Over.{is_over};
 ghost use Rattle.commit_hub.specs.Pages.{ForAccepted, ForTie};
 
 use crate::calls::{asks, forfeits, keeps, settled};

@@ -2,7 +2,7 @@
 ghost use Rattle.std.specs.Prelude.{◌≡◌, false, None};
 ghost use Rattle.ring_records.specs.Snapshot.{IsSound};
 ghost use Rattle.gated_journal.specs.Journal.{member_of};
-ghost use Rattle.commit_hub.specs.Desks.{is_over};
+ghost use Rattle.commit_hub.specs.Over.{is_over};
 
 use disk_model::{FuseDevice, MemDevice};
 use gated_journal::{Journal, Opening, device_size};

@@ -1,3 +1,4 @@
+pub mod Added
 pub mod Forms
 pub mod Texts
 pub mod Words

@@ -9,11 +9,3 @@ text_of (line ∷ lines) = line ++ (10 ∷ text_of lines)
 -- the front of the text
 abbrev pub IsFront : List ℕ → List ℕ → Type 0
 IsFront front text = (rest : List ℕ) × (text ≡ front ++ rest)
-
--- ---- what is added to a text
-
-abbrev pub AddsLines : List ℕ → List ℕ → List (List ℕ) → Type 0
-AddsLines old new lines = new ≡ old ++ text_of lines
-
-abbrev pub AddsLine : List ℕ → List ℕ → List ℕ → Type 0
-AddsLine old new line = AddsLines old new (line ∷ [])

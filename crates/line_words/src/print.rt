@@ -1,7 +1,7 @@
 // A refusal as a printed line.
 ghost use Rattle.std.specs.Prelude.{OnOk, string_bytes};
 ghost use Rattle.ring_records.specs.Texts.{refusal_text};
-ghost use Rattle.line_words.specs.Texts.{AddsLine};
+ghost use Rattle.line_words.specs.Added.{AddsLine};
 
 use ring_records::Refusal;
 use std::alloc::AllocError;

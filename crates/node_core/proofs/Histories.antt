@@ -42,7 +42,8 @@ use Rattle.ring_records.proofs.Known.{leader-known, sends-known, objects-known, 
 use Rattle.ring_records.proofs.Summaries.{floor-known}
 use Rattle.ring_records.proofs.Latest.{latest_is, latest_same, one_latest}
 use Rattle.node_core.specs.Brought.{told_by, brought, who_after, who_by}
-use Rattle.node_core.specs.Core.{CoreView, CoreStandsFor, Refuses, taking}
+use Rattle.node_core.specs.Core.{CoreView, Refuses}
+use Rattle.node_core.specs.FreeCore.{CoreStandsFor, taking}
 use Rattle.node_core.proofs.Retiring.{stood_count, known_next}
 
 -- ---- the next history

@@ -23,7 +23,7 @@ use Rattle.cr_automaton.specs.declared.ballot.Ballot.{Ballot}
 use Rattle.neighbour_link.specs.Outlink.{LinkView, sent_count}
 use Rattle.groups_terms.specs.Table.{TableView, known, leads}
 use Rattle.groups_terms.proofs.States.{stood_in, leader_in, touched_in}
-use Rattle.node_core.specs.Core.{FreeView}
+use Rattle.node_core.specs.FreeCore.{FreeView}
 use Rattle.node_core.specs.Judged.{full_count, by_floor, by_last, by_ballot, against_stand, against_take, against_acked, against_retire}
 use Rattle.node_core.specs.Kept.{known_with, IsFree}
 

@@ -15,7 +15,8 @@ use Rattle.ring_records.specs.Known.{Objects, known_of, leader_of, stepped}
 use Rattle.ring_records.specs.Lists.{or_else}
 use Rattle.ring_records.proofs.Admission.{or_else-none}
 use Rattle.node_core.specs.Brought.{who_by}
-use Rattle.node_core.specs.Core.{CoreView, FreeView, Refuses, taking}
+use Rattle.node_core.specs.Core.{CoreView, Refuses}
+use Rattle.node_core.specs.FreeCore.{FreeView, taking}
 
 pub refuses_first : (core : CoreView) (x : Input) (first : Option Refusal) (r : Refusal) → Objects core.size core.known x first → first ≡ Some r → Refuses core x (Some r)
 refuses_first core x first r objects e = (first, objects, sym (ap (λ o. or_else o (no_room core.capacity core.room x (snapshot_len newest (stepped core.me core.known x)))) e))

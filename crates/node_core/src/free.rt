@@ -41,7 +41,7 @@ pub struct FreeCore {
 
 impl Model for FreeCore {
     ghost use Rattle.node_core.specs.Codes.{coded_free};
-    ghost use Rattle.node_core.specs.Core.{FreeView};
+    ghost use Rattle.node_core.specs.FreeCore.{FreeView};
     ghost use Rattle.node_core.specs.Kept.{known_with, IsCounted};
 
     ghost Value = { FreeView };

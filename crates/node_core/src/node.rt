@@ -17,7 +17,8 @@ ghost use Rattle.ring_records.specs.Decided.{told};
 ghost use Rattle.ring_records.specs.Snapshot.{IsSound};
 ghost use Rattle.ring_records.specs.Summary as summed;
 ghost use Rattle.node_core.specs.Brought.{brought, who_after, who_by};
-ghost use Rattle.node_core.specs.Core.{CoreStandsFor, IsNodeOf, Refuses, taking};
+ghost use Rattle.node_core.specs.Core.{IsNodeOf, Refuses};
+ghost use Rattle.node_core.specs.FreeCore.{CoreStandsFor, taking};
 
 use crate::effects::Effects;
 use crate::free::FreeCore;

@@ -33,7 +33,8 @@ use Rattle.gated_journal.specs.Journal.{device_of, member_of, len_of, room_of, l
 use Rattle.gated_journal.specs.Reading.{Reading, fresh_area, with_more}
 use Rattle.gated_journal.specs.Unread.{IsFault}
 use Rattle.node_core.specs.Core.{IsNodeOf}
-use Rattle.group_commit.specs.Desk.{DeskKept, DeskView, IsFlying, known_all, epochs, seen}
+use Rattle.group_commit.specs.Desk.{DeskKept, DeskView, known_all, epochs, seen}
+use Rattle.group_commit.specs.DeskCalls.{IsFlying}
 use Rattle.group_commit.specs.Launching.{next_area, launch_objection, checkpoint_objection}
 use Rattle.group_commit.specs.Desk as desks
 use Rattle.group_commit.specs.Launching as launching

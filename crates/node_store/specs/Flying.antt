@@ -2,7 +2,8 @@
 use Rattle.std.specs.Prelude.{◌&&◌, nat_lt, if◌then◌else◌, length, ◌≡◌, ◌≢◌, false, List}
 use Rattle.disk_model.specs.declared.device.Device.{Ghosts}
 use Rattle.ring_records.specs.declared.base.Base.{Base}
-use Rattle.group_commit.specs.Desk.{DeskView, DeskKept, launched, IsFlying, landed, seen}
+use Rattle.group_commit.specs.Desk.{DeskView, DeskKept, launched, landed, seen}
+use Rattle.group_commit.specs.DeskCalls.{IsFlying}
 use Rattle.group_commit.specs.Launching.{launched_all, needs_checkpoint, next_area}
 use Rattle.ring_records.specs.declared.input.Input.{Input}
 use Rattle.ring_records.specs.Admission.{costs_of}

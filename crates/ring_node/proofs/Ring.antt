@@ -15,7 +15,8 @@ use Rattle.ring_records.specs.Emission.{sent}
 use Rattle.ring_records.specs.Member.{Member}
 use Rattle.ring_records.specs.declared.summary.Summary.{Summary}
 use Rattle.gated_journal.specs.Reading.{device_size, is_header}
-use Rattle.group_commit.specs.Desk.{DeskView, DeskKept, ticket_for, seen, submitted, ended}
+use Rattle.group_commit.specs.Desk.{DeskView, DeskKept, seen, ended}
+use Rattle.group_commit.specs.DeskCalls.{ticket_for, submitted}
 use Rattle.group_commit.specs.Past.{IsPast}
 use Rattle.node_store.specs.State.{opened_view}
 use Rattle.ring_node.specs.Held.{HeldView, AreInside, IsWhole, IsRingNode}

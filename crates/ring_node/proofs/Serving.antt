@@ -30,7 +30,8 @@ use Rattle.ring_records.specs.declared.refusal.Refusal.{Refusal}
 use Rattle.ring_records.specs.declared.refusal.Refusal.TheVariants.{Device, Failed, OutOfMemory}
 use Rattle.ring_records.specs.Member.{Member, member}
 use Rattle.group_commit.specs.Desk as desks
-use Rattle.group_commit.specs.Desk.{DeskView, DeskKept, ticket_for, seen, submitted, ended, objection, kept_at, IsHere, IsSealed}
+use Rattle.group_commit.specs.Desk.{DeskView, DeskKept, seen, ended, objection, kept_at, IsHere, IsSealed}
+use Rattle.group_commit.specs.DeskCalls.{ticket_for, submitted}
 use Rattle.group_commit.specs.Ticket.{TicketView}
 use Rattle.ring_records.proofs.States.{base-fresh, lawful-opened, lawful-asked}
 use Rattle.group_commit.specs.Past.{IsPast}

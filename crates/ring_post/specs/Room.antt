@@ -1,7 +1,7 @@
 -- What a node does with little room.
 use Rattle.std.specs.Prelude.{ℕ, ◌+◌, ◌*◌, ◌&&◌, nat_eq, nat_lt, Bool}
 use Rattle.ring_records.specs.declared.limits.TheConstants.{DOORS, INPUT_BYTES}
-use Rattle.commit_hub.specs.Told.{lacks_room}
+use Rattle.commit_hub.specs.Stances.{lacks_room}
 use Rattle.commit_hub.specs.declared.look.Look.{Look}
 
 -- the bytes that a message takes at most, and a Stand at each door

@@ -1,6 +1,6 @@
 //! What a node holds of what it may hold.
 ghost use Rattle.std.specs.Prelude.{◌≡◌};
-ghost use Rattle.commit_hub.specs.Told.{lacks_room, takes_stands};
+ghost use Rattle.commit_hub.specs.Stances.{lacks_room, takes_stands};
 
 use commit_hub::Look;
 use ring_status::Holding;

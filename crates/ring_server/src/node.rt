@@ -3,7 +3,7 @@ ghost use Rattle.std.specs.Prelude.{◌≡◌, ◌+◌, length, IfSome};
 ghost use Rattle.std.specs.List.{sum_by};
 ghost use Rattle.commit_hub.specs.Holders.{count_of};
 ghost use Rattle.commit_hub.specs.Pages.{ForAccepted, ForTie};
-ghost use Rattle.commit_hub.specs.Tied.{durable_part};
+ghost use Rattle.group_commit.specs.Next.{durable_part};
 ghost use Rattle.ring_service.specs.Flushers.{known_to};
 ghost use Rattle.ring_start.specs.Fits.{kept_by};
 

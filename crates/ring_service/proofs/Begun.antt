@@ -6,8 +6,8 @@ use Rattle.disk_model.proofs.Moments.{weaken}
 use Rattle.ring_records.specs.declared.input.Input.{Input}
 use Rattle.ring_records.specs.declared.packet.Packet.{Packet}
 use Rattle.ring_records.specs.declared.summary.Summary.{Summary}
-use Rattle.ring_records.specs.Answer.{Answered, PacketRests}
-use Rattle.ring_records.specs.Answering.{Answers}
+use Rattle.ring_records.specs.Admission.{shortage}
+use Rattle.ring_records.specs.Answer.{Answered, Answers, PacketRests}
 use Rattle.ring_records.specs.Member.{Member}
 use Rattle.ring_records.specs.States.{left_by}
 use Rattle.ring_records.proofs.Prefixes.{prefix_shorter, prefix_trans}
@@ -15,7 +15,7 @@ use Rattle.ring_records.proofs.Resting.{rests-stay}
 use Rattle.history_laws.proofs.Beginnings.{longer}
 use Rattle.group_commit.specs.Desk.{IsAnswer}
 use Rattle.group_commit.specs.Past.{shifted}
-use Rattle.commit_hub.specs.Tied.{Durable}
+use Rattle.group_commit.specs.Next.{Durable}
 use Rattle.ring_service.specs.Begun.{Begins}
 use Rattle.ring_service.specs.Rounds.{at_rest, with_flying}
 use Rattle.ring_service.specs.Series.{Round, AreRounds, IsCut, IsHeld, IsLeftBehind, device_behind, inputs_of, known_since}
@@ -81,10 +81,10 @@ module _ {V : Type 0} (disk : V → Disk) (clock : V → ℕ) (left_since : V �
 
 -- an answer
 pub answers_stay : (m : Member) (past begun l : List Input) (given : Answered) → IsPrefix (past ++ begun) l → (a : IsAnswer m past begun given)
-    → Answers m.node m.n m.capacity a.base l given.question given.answer
+    → Answers m.node m.n (shortage m.node m.capacity a.base) l given.question given.answer
 answers_stay m past begun l given p a =
-    subst (λ (h : List Input). Answers m.node m.n m.capacity a.base h given.question given.answer) p.1
-    (longer m.node m.n m.capacity a.base (past ++ begun) given.question given.answer a.gives p.0)
+    subst (λ (h : List Input). Answers m.node m.n (shortage m.node m.capacity a.base) h given.question given.answer) p.1
+    (longer m.node m.n (shortage m.node m.capacity a.base) (past ++ begun) given.question given.answer a.gives p.0)
 
 -- a packet
 pub packet_stays : (me : ℕ) (begun l : List Input) (packet : Packet) → IsPrefix begun l → PacketRests me begun packet → PacketRests me l packet

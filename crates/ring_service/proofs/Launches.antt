@@ -5,7 +5,7 @@ use Rattle.ring_records.specs.declared.refusal.Refusal.{Refusal}
 use Rattle.ring_records.specs.declared.refusal.Refusal.TheVariants as refused
 use Rattle.ring_records.proofs.Lists.{none≢some}
 use Rattle.gated_journal.specs.Batch.{Numbered}
-use Rattle.commit_hub.specs.Desks.{flies, launch_refusal}
+use Rattle.commit_hub.specs.Over.{flies, launch_refusal}
 
 -- a growth was refused, where nothing else is against it
 pub short : (against : Option Refusal) (why : Refusal) → against ≡ None → (against ≡ Some why) ⊎ ((against ≡ None) × (why ≡ refused.OutOfMemory)) → why ≡ refused.OutOfMemory

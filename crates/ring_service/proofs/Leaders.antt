@@ -26,7 +26,7 @@ use Rattle.group_commit.specs.Desk.{DeskKept}
 use Rattle.group_commit.specs.Past.{shifted}
 use Rattle.node_store.specs.State.{IsOpenedAs}
 use Rattle.node_store.proofs.Left.{allowed_in}
-use Rattle.commit_hub.specs.Tied.{Durable, durable_part}
+use Rattle.group_commit.specs.Next.{Durable, durable_part}
 use Rattle.commit_hub.specs.Told.{IsBroughtBehind, IsWindowBehind}
 use Rattle.ring_service.specs.Begun.{BeginsBehind}
 use Rattle.ring_service.specs.Leaders.{Life, AreFromReleased, AreLives, IsEarlier, IsNamed, IsReadFrom, MayBeReleasedBy, IsReplied, Names, history_of}

@@ -13,8 +13,8 @@ use Rattle.gated_journal.specs.Batch.{base_by, numbered_by, shown}
 use Rattle.gated_journal.specs.Frames.{AreSuited}
 use Rattle.gated_journal.specs.declared.work.Work.{Work}
 use Rattle.gated_journal.specs.declared.work.Work.TheVariants as works
-use Rattle.commit_hub.specs.Tied.{Durable, with_area, with_batch}
-use Rattle.commit_hub.specs.Works.{flown_by, summary_by, flying_behind, IsLawfulBehind, IsNext}
+use Rattle.group_commit.specs.Next.{Durable, with_area, with_batch, flying_behind, IsLawfulBehind, IsNext}
+use Rattle.gated_journal.specs.Works.{flown_by, summary_by}
 use Rattle.group_commit.proofs.Costs.{used-joined}
 use Rattle.group_commit.proofs.KeptInputs.{after-inputs}
 use Rattle.gated_journal.specs.WorkTaken.{IsTaken, count_after, epoch_after, layout_after, room_after}

@@ -44,7 +44,7 @@ use Rattle.group_commit.specs.Content.{IsContent}
 use Rattle.group_commit.specs.Desk.{DeskKept, seen}
 use Rattle.group_commit.specs.Past.{IsPast}
 use Rattle.group_commit.proofs.Past.{durable-shifted}
-use Rattle.commit_hub.specs.Tied.{Durable, durable_part}
+use Rattle.group_commit.specs.Next.{Durable, durable_part}
 use Rattle.ring_service.specs.Leaders.{Life, IsReadFrom, IsReplied, IsTold, Names, history_of}
 use Rattle.ring_service.specs.Reads.{IsLatestReply, IsReadReply}
 use Rattle.ring_service.specs.Rounds.{IsRound}

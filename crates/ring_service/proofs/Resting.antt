@@ -28,7 +28,7 @@ use Rattle.group_commit.proofs.Opening.{EachAfter-behind}
 use Rattle.group_commit.proofs.Past.{durable-shifted, take-front}
 use Rattle.group_commit.proofs.Seen.{flown-shifted}
 use Rattle.node_store.specs.State.{IsLeft}
-use Rattle.commit_hub.specs.Tied.{Durable}
+use Rattle.group_commit.specs.Next.{Durable}
 use Rattle.commit_hub.specs.Told.{IsBroughtBehind}
 use Rattle.ring_service.specs.Rounds.{at_rest, known_behind, with_flying}
 use Rattle.ring_service.specs.Series.{Round, AreRounds, IsCut, IsHeld, IsLeftBehind, IsRoundOf, RestsOn, RestsOnBehind, device_behind, inputs_of, known_since}

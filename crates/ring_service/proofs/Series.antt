@@ -26,8 +26,7 @@ use Rattle.group_commit.proofs.Past.{durable-shifted, take-front}
 use Rattle.group_commit.proofs.Seen.{landed_shifted}
 use Rattle.node_store.specs.State.{Holds, IsOpenedAs, MayBeLeft, area_with, durable_held, flown_held}
 use Rattle.node_store.proofs.Left.{may_be_left}
-use Rattle.commit_hub.specs.Tied.{Durable, durable_part}
-use Rattle.commit_hub.specs.Works.{IsLawfulBehind}
+use Rattle.group_commit.specs.Next.{Durable, durable_part, IsLawfulBehind}
 use Rattle.group_commit.proofs.Costs.{durable_count}
 use Rattle.gated_journal.specs.Works.{reading_after}
 use Rattle.ring_service.specs.Rounds.{IsMade, IsRound, IsStopped, at_rest, known_behind, with_flying}

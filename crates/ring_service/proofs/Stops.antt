@@ -8,8 +8,7 @@ use Rattle.ring_records.specs.declared.summary.Summary.{Summary}
 use Rattle.ring_records.specs.Member.{Member}
 use Rattle.gated_journal.specs.Areas.{AllReadAs, ReadsAsOneOf}
 use Rattle.gated_journal.specs.Reading.{Reading}
-use Rattle.commit_hub.specs.Tied.{Durable}
-use Rattle.commit_hub.specs.Works.{IsLawfulBehind}
+use Rattle.group_commit.specs.Next.{Durable, IsLawfulBehind}
 use Rattle.gated_journal.specs.Works.{reading_after}
 use Rattle.ring_service.specs.Rounds.{IsMade, IsStopped, at_rest, with_flying}
 

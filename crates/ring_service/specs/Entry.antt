@@ -11,7 +11,8 @@ use Rattle.ring_records.specs.Objection.{where_so}
 use Rattle.ring_records.specs.Lists.{or_else}
 use Rattle.ring_records.specs.Member.{Member}
 use Rattle.commit_hub.specs.declared.look.Look.{Look}
-use Rattle.commit_hub.specs.Told.{IsLook, takes_stands}
+use Rattle.commit_hub.specs.Told.{IsLook}
+use Rattle.commit_hub.specs.Stances.{takes_stands}
 use Rattle.sessions.specs.Session.{Answer, Asks}
 
 -- Why a Stand for the term is refused, where this is the latest that is known for its group and the hub shows this: it is more

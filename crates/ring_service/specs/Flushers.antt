@@ -8,7 +8,7 @@ use Rattle.gated_journal.specs.declared.journal.Journal.{Journal}
 use Rattle.decision_board.specs.Boards.{BoardView, published, pending, in_rounds}
 use Rattle.commit_hub.specs.declared.ledgers.NodeLedger as node
 use Rattle.commit_hub.specs.Holders.{known_by, view_by}
-use Rattle.commit_hub.specs.Tied.{Durable}
+use Rattle.group_commit.specs.Next.{Durable}
 use Rattle.ring_service.specs.declared.flusher.Flusher.{Flusher}
 
 module _ {V J A : Type 0} {v : device.Ghosts V} {a : node.Ghosts A} {la : ledger.Ghosts A} where

@@ -24,8 +24,7 @@ use Rattle.ring_records.specs.Release.{notices}
 use Rattle.group_commit.specs.Content.{IsContent}
 use Rattle.group_commit.specs.Desk.{IsAnswer}
 use Rattle.group_commit.specs.Past.{IsPast}
-use Rattle.commit_hub.specs.Tied.{Durable}
-use Rattle.commit_hub.specs.Works.{IsLawfulBehind}
+use Rattle.group_commit.specs.Next.{Durable, IsLawfulBehind}
 use Rattle.ring_service.specs.Reads.{IsReadReply}
 use Rattle.ring_service.specs.Rounds.{at_rest}
 

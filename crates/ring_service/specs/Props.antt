@@ -3,7 +3,7 @@ use Rattle.std.specs.Prelude.{◌≡◌, ℕ, Bool, false}
 use Rattle.std.specs.Coded.{Coded-set, coded_ℕ}
 use Rattle.ring_records.specs.declared.summary.Summary.{Summary}
 use Rattle.ring_records.specs.Member.{Member}
-use Rattle.commit_hub.specs.Tied.{Durable}
+use Rattle.group_commit.specs.Next.{Durable}
 use Rattle.ring_service.specs.Rounds.{HasKnown}
 
 pub HasKnown-prop : (ended : Bool) (m : Member) (opening : Summary) (known : Durable) (len room layout epoch : ℕ) → IsProp (ended ≡ false → HasKnown m opening known len room layout epoch)

@@ -17,8 +17,7 @@ use Rattle.gated_journal.specs.Reading.{Reading}
 use Rattle.gated_journal.specs.Works.{reading_after}
 use Rattle.group_commit.specs.declared.landed.Landed.{Landed}
 use Rattle.commit_hub.specs.Told.{IsBrought}
-use Rattle.commit_hub.specs.Tied.{Durable, with_batch, with_area}
-use Rattle.commit_hub.specs.Works.{IsLawfulBehind, flying_behind}
+use Rattle.group_commit.specs.Next.{Durable, with_batch, with_area, IsLawfulBehind, flying_behind}
 
 -- ---- what is made durable: inputs of a batch; or a summary of all inputs, and those of them that were not durable yet
 

@@ -20,8 +20,7 @@ use Rattle.group_commit.specs.declared.landed.Landed.{Landed}
 use Rattle.group_commit.specs.Desk.{DeskKept}
 use Rattle.group_commit.specs.Past.{IsPast, shifted}
 use Rattle.node_store.specs.State.{Holds, IsLeft, MayBeLeft, durable_held, opened_view}
-use Rattle.commit_hub.specs.Tied.{Durable}
-use Rattle.commit_hub.specs.Works.{IsLawfulBehind}
+use Rattle.group_commit.specs.Next.{Durable, IsLawfulBehind}
 use Rattle.ring_service.specs.Rounds.{IsRound, at_rest, known_behind, with_flying}
 
 -- ---- the rounds

@@ -17,7 +17,7 @@ use Rattle.ring_records.specs.Notices.{floor_in}
 use Rattle.ring_records.specs.Member.{Member}
 use Rattle.group_commit.specs.Desk.{IsAnswer}
 use Rattle.group_commit.specs.Past.{IsPast}
-use Rattle.decision_board.specs.Boards.{seen, learned}
+use Rattle.decision_board.specs.Readers.{seen, learned}
 use Rattle.commit_hub.specs.Holders.{begun_by, count_of}
 use Rattle.commit_hub.specs.declared.ledgers.NodeLedger as node
 use Rattle.commit_hub.specs.declared.share.Begun.{Begun}

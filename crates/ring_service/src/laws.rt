@@ -13,8 +13,8 @@ ghost use Rattle.ring_records.specs.declared.key.Key.{Key};
 ghost use Rattle.ring_records.specs.declared.notice.Notice.{Notice};
 ghost use Rattle.ring_records.specs.declared.packet.Packet.{Packet};
 ghost use Rattle.ring_records.specs.Allowed.{IsAllowed};
-ghost use Rattle.ring_records.specs.Answer.{Answered, PacketRests};
-ghost use Rattle.ring_records.specs.Answering.{Answers};
+ghost use Rattle.ring_records.specs.Admission.{shortage};
+ghost use Rattle.ring_records.specs.Answer.{Answered, Answers, PacketRests};
 ghost use Rattle.ring_records.specs.History.{floor};
 ghost use Rattle.ring_records.specs.Leader.{first_leader, leader};
 ghost use Rattle.ring_records.specs.Latest.{IsLatest};
@@ -30,7 +30,7 @@ ghost use Rattle.group_commit.specs.Content.{IsContent};
 ghost use Rattle.group_commit.specs.Desk.{DeskKept, IsAnswer, seen};
 ghost use Rattle.group_commit.specs.Past.{IsPast, shifted};
 ghost use Rattle.node_store.specs.State.{Holds, IsOpenedAs};
-ghost use Rattle.commit_hub.specs.Tied.{Durable, durable_part};
+ghost use Rattle.group_commit.specs.Next.{Durable, durable_part};
 ghost use Rattle.commit_hub.specs.Told.{IsBroughtBehind, IsWindowBehind};
 ghost use Rattle.ring_service.specs.Begun.{Begins, BeginsBehind};
 ghost use Rattle.ring_service.specs.Leaders.{Life, AreFromReleased, AreLives, IsEarlier, IsNamed, MayBeReleasedBy, IsTold, history_of};
@@ -103,7 +103,7 @@ pub fn told_by_a_flusher<V: Device, A: NodeLedger>()
     ensures sooner { (known : Durable) (before later : List (Round V)) (begun : List Input) → IsPrefix begun (known_since known (before ++ later)).inputs
         → length begun ≤ length (known_since known before).inputs → IsPrefix begun (known_since known before).inputs }
     ensures reply { (past begun : List Input) (image : List ℕ) (keep : Bool) (given : Answered) (left : BeginsBehind A.member past begun image) (answer : IsAnswer A.member past begun given)
-        → Answers A.member.node A.member.n A.member.capacity answer.base (left_by keep left.state).inputs given.question given.answer }
+        → Answers A.member.node A.member.n (shortage A.member.node A.member.capacity answer.base) (left_by keep left.state).inputs given.question given.answer }
     ensures window { (past begun : List Input) (image : List ℕ) (keep : Bool) (list : List Packet) (packet : Packet) (left : BeginsBehind A.member past begun image)
         → IsWindowBehind A.member past begun list → Contains list packet → PacketRests A.member.node (left_by keep left.state).inputs packet }
 {}

@@ -1,7 +1,7 @@
 //! A service over a hub and the board of its node.
 ghost use Rattle.std.specs.Prelude.{◌≡◌, false, Some, None, is_some, IfErr, IfOk, IfSome};
 ghost use Rattle.ring_records.specs.Outside.{is_outside};
-ghost use Rattle.decision_board.specs.Boards.{seen};
+ghost use Rattle.decision_board.specs.Readers.{seen};
 
 use commit_hub::{Begun, Hub, NodeLedger, Share};
 use decision_board::{BoardReader, Naming, Told};

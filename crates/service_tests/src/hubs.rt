@@ -5,7 +5,7 @@ ghost use Rattle.ring_records.specs.States.{durable_in};
 ghost use Rattle.gated_journal.specs.Journal.{member_of, len_of, room_of, layout_of, epoch_of, is_spoiled};
 ghost use Rattle.node_core.specs.Core.{IsNodeOf};
 ghost use Rattle.node_store.specs.Node.{desk_of};
-ghost use Rattle.commit_hub.specs.Desks.{is_over};
+ghost use Rattle.commit_hub.specs.Over.{is_over};
 ghost use Rattle.commit_hub.specs.Pages.{ForAccepted, ForTie};
 
 use crate::calls::{Noted, refused};

@@ -1,7 +1,8 @@
 // The answer to one line.
 ghost use Rattle.std.specs.Prelude.{◌≡◌, ◌⊎◌, ◌++◌, ◌∷◌, [], List, ℕ, Some, Option, IfOk, IfErr, IsErrOf, OnOk, codes, string_bytes};
 ghost use Rattle.std.specs.Io.KnownBytes.{Appends};
-ghost use Rattle.line_words.specs.Texts.{AddsLine, IsFront};
+ghost use Rattle.line_words.specs.Texts.{IsFront};
+ghost use Rattle.line_words.specs.Added.{AddsLine};
 ghost use Rattle.sessions.specs.Commands.{is_bye, question_in, request_of, said};
 ghost use Rattle.sessions.specs.Session.{Answer, Replied, answer_text, is_last, question, response, told};
 

@@ -7,7 +7,8 @@ ghost use Rattle.ring_records.specs.declared.notice.Notice.TheVariants.{Decided}
 ghost use Rattle.ring_records.specs.Known.{after};
 ghost use Rattle.ring_records.specs.Notices.{decided_all};
 ghost use Rattle.ring_records.specs.States.{durable_in};
-ghost use Rattle.group_commit.specs.Content.{led, retired_all, IsContent};
+ghost use Rattle.group_commit.specs.Content.{retired_all, IsContent};
+ghost use Rattle.group_commit.specs.Leads.{led};
 ghost use Rattle.group_commit.specs.Desk.{seen};
 ghost use Rattle.group_commit.specs.Past.{IsPast};
 

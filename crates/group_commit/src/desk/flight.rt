@@ -18,7 +18,8 @@ use gated_journal::{Batch, Checkpoint, Flown, Receipt, Spoiled};
 use ring_records::{BATCH_INPUTS, EPOCHS, LAYOUT, Refusal};
 
 impl Desk {
-    ghost use Rattle.group_commit.specs.Desk.{known_all, seen, frees_room, is_due, IsFlying};
+    ghost use Rattle.group_commit.specs.Desk.{known_all, seen, frees_room, is_due};
+    ghost use Rattle.group_commit.specs.DeskCalls.{IsFlying};
     ghost use Rattle.group_commit.specs.Launching.{launched_all, launch_objection, checkpoint_objection, needs_checkpoint, MayRenew};
     ghost use Rattle.group_commit.specs.Past.{IsPast};
     ghost use Rattle.gated_journal.specs.Batch.{shown as batch_shown, is_checkpoint, kept_in, landed as receipted, lost, numbered, numbered_with, numbered_by, base_by};

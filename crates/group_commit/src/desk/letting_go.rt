@@ -9,7 +9,7 @@ use crate::gone::Gone;
 use ring_records::Summary;
 
 impl Desk {
-    ghost use Rattle.group_commit.specs.Desk.{let_go};
+    ghost use Rattle.group_commit.specs.DeskCalls.{let_go};
 
     /// Lets go of the inputs that the area of the journal in use stands for, and says how many are gone since the opening:
     /// `history` begins behind them, and of what rests on fewer `vouch` knows nothing. While a checkpoint flies it lets go

@@ -1,7 +1,8 @@
 -- `audit` reads both halves in one ghost step.
 use mathlib.Core.Path.{◌≡◌, refl, sym, subst}
 use mathlib.Core.List.{List, [], ◌∷◌}
-use Rattle.commit_hub.specs.Tied.{Names, TieView, held_owns, known_owns}
+use Rattle.commit_hub.specs.Tied.{held_owns, known_owns}
+use Rattle.commit_hub.specs.Ties.{Names, TieView}
 use seplogic.Ra.Ura.{Ura}
 use mir.Syntax.{Fn}
 use mir.Val.{Val, vunit, vptr}

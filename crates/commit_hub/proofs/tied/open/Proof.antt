@@ -1,7 +1,8 @@
 -- `open` makes a ghost name, and hands out its two halves.
 use mathlib.Core.Path.{◌≡◌, refl}
 use mathlib.Core.List.{List, [], ◌∷◌, ◌++◌}
-use Rattle.commit_hub.specs.Tied.{Names, nothing as none_durable, held_owns, known_owns}
+use Rattle.commit_hub.specs.Tied.{nothing as none_durable, held_owns, known_owns}
+use Rattle.commit_hub.specs.Ties.{Names}
 use seplogic.Ra.Ura.{Ura}
 use mir.Val.{Val, vstruct, vcons, vnil, of_list}
 use base.Logic.{SProp, ent, emp, via, fst∗}

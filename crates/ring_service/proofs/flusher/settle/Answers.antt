@@ -8,8 +8,8 @@ use Rattle.gated_journal.specs.Batch.{Numbered, is_checkpoint}
 use Rattle.gated_journal.specs.Journal.{device_of, len_of, room_of, layout_of, epoch_of}
 use Rattle.gated_journal.specs.Reading.{Reading}
 use Rattle.commit_hub.specs.Holders.{known_by}
-use Rattle.commit_hub.specs.Tied.{Durable, with_area, with_batch}
-use Rattle.commit_hub.specs.Works.{flown_by, summary_by}
+use Rattle.group_commit.specs.Next.{Durable, with_area, with_batch}
+use Rattle.gated_journal.specs.Works.{flown_by, summary_by}
 use Rattle.gated_journal.specs.Works.{reading_after}
 use Rattle.gated_journal.specs.WorkTaken.{IsTaken, room_after}
 use Rattle.ring_service.proofs.Next.{counts, has, knows, takes}

@@ -3,7 +3,7 @@ use Rattle.std.proofs.lemmas.Bool.{and_parts}
 use Rattle.ring_records.specs.Lawful.{IsNodeState}
 use Rattle.group_commit.specs.Desk.{DeskKept}
 use Rattle.commit_hub.specs.Desks.{flying_part, is_done}
-use Rattle.commit_hub.specs.Tied.{durable_part}
+use Rattle.group_commit.specs.Next.{durable_part}
 use Rattle.commit_hub.specs.Works.{IsNextArea}
 use Rattle.commit_hub.proofs.locked.Locked.close.Goals as goal
 

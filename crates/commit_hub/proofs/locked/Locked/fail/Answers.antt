@@ -1,7 +1,8 @@
 use Rattle.std.proofs.Common.{◌≡◌, ◌+◌, [], true, length, append-nil, sym, ap, ◌∙◌, subst}
 use Rattle.ring_records.specs.Lawful.{IsNodeState}
 use Rattle.group_commit.specs.Desk.{DeskKept}
-use Rattle.commit_hub.specs.Tied.{Durable, TieView, durable_part}
+use Rattle.group_commit.specs.Next.{Durable, durable_part}
+use Rattle.commit_hub.specs.Ties.{TieView}
 use Rattle.commit_hub.specs.Works.{IsNextArea}
 use Rattle.commit_hub.specs.Desks.{flying_part}
 use Rattle.commit_hub.proofs.Ties.{as_flies, flies_as}

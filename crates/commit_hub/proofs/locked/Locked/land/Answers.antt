@@ -6,10 +6,11 @@ use Rattle.group_commit.specs.Desk.{DeskKept, landed}
 use Rattle.commit_hub.specs.Holders.{known_by}
 use Rattle.ring_records.specs.States.{flying_in}
 use Rattle.group_commit.proofs.Costs.{flown}
-use Rattle.commit_hub.specs.Tied.{Durable, TieView, durable_part, with_area, with_batch}
+use Rattle.group_commit.specs.Next.{Durable, durable_part, with_area, with_batch}
+use Rattle.commit_hub.specs.Ties.{TieView}
 use Rattle.commit_hub.specs.Told.{IsBrought}
 use Rattle.commit_hub.proofs.Batches.{brings, named, released}
-use Rattle.commit_hub.specs.Desks.{launch_refusal}
+use Rattle.commit_hub.specs.Over.{launch_refusal}
 use Rattle.commit_hub.proofs.Ties.{as_flies, flies_as, landed_free}
 use Rattle.commit_hub.proofs.Works.{flew_none, flew_some, lands_area, lands_batch}
 use Rattle.commit_hub.proofs.locked.Locked.land.Goals as goal

@@ -1,15 +1,17 @@
 use Rattle.std.proofs.Common.{true, ◌≡◌, ◌⊎◌, ◌+◌, ◌≤◌, [], length, take, append-nil, false, sym, ap, ◌∙◌, subst, arith, Option, Some, None, IfErr, IfNone, IfOk, OnOk}
 use Rattle.std.specs.Prelude.{MatchOption}
 use Rattle.commit_hub.specs.Holders.{known_by}
-use Rattle.commit_hub.specs.Tied.{Durable, TieView, durable_part}
+use Rattle.group_commit.specs.Next.{Durable, durable_part}
+use Rattle.commit_hub.specs.Ties.{TieView}
 use Rattle.group_commit.proofs.Costs.{durable_count}
 use Rattle.ring_records.specs.declared.refusal.Refusal.{Refusal}
 use Rattle.ring_records.specs.declared.refusal.Refusal.TheVariants as refused
 use Rattle.ring_records.specs.Lawful.{IsNodeState}
 use Rattle.group_commit.specs.Desk.{DeskKept}
 use Rattle.group_commit.specs.Launching.{launch_objection}
-use Rattle.commit_hub.specs.Desks.{flying_part, is_resting, launch_refusal}
-use Rattle.commit_hub.specs.Works.{flown_by}
+use Rattle.commit_hub.specs.Desks.{flying_part, is_resting}
+use Rattle.commit_hub.specs.Over.{launch_refusal}
+use Rattle.gated_journal.specs.Works.{flown_by}
 use Rattle.commit_hub.proofs.Ties.{launch_done, launch_flies, on_err, refusal_is}
 use Rattle.commit_hub.proofs.Works.{fits_next, launches, none_waits}
 use Rattle.commit_hub.proofs.locked.Locked.launch.Goals as goal

@@ -1,8 +1,8 @@
 use Rattle.std.proofs.Common.{◌++◌, ◌∙◌, ap}
 use Rattle.std.proofs.lemmas.Bool.{or_parts}
 use Rattle.ring_records.specs.States.{durable_in}
-use Rattle.commit_hub.specs.Tied.{TieView}
-use Rattle.commit_hub.specs.Desks.{launch_refusal}
+use Rattle.commit_hub.specs.Ties.{TieView}
+use Rattle.commit_hub.specs.Over.{launch_refusal}
 use Rattle.commit_hub.proofs.Ties.{idle_refusal}
 use Rattle.commit_hub.proofs.locked.Locked.new.Goals as goal
 

@@ -4,7 +4,7 @@ use Rattle.group_commit.specs.Desk.{DeskKept, IsSubmitted, with_ticket}
 use Rattle.group_commit.specs.Ticket.{shown}
 use Rattle.std.proofs.lemmas.Bool.{and_parts, both_ways, or_parts}
 use Rattle.commit_hub.specs.Desks.{flying_part}
-use Rattle.commit_hub.specs.Tied.{durable_part}
+use Rattle.group_commit.specs.Next.{durable_part}
 use Rattle.commit_hub.specs.Works.{IsNextArea}
 use Rattle.commit_hub.proofs.Requests.{durable_stays, flying_stays, grows, takes_requests}
 use Rattle.commit_hub.proofs.locked.Locked.submit.Goals as goal

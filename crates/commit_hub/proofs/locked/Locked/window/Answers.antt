@@ -1,6 +1,6 @@
 use Rattle.std.proofs.Common.{List, sym, subst}
 use Rattle.ring_records.specs.declared.input.Input.{Input}
-use Rattle.commit_hub.specs.Tied.{durable_part}
+use Rattle.group_commit.specs.Next.{durable_part}
 use Rattle.commit_hub.specs.Told.{IsWindow}
 use Rattle.commit_hub.proofs.Batches.{is_window, named}
 use Rattle.commit_hub.proofs.locked.Locked.window.Goals as goal

@@ -6,7 +6,7 @@ use Rattle.ring_records.specs.declared.refusal.Refusal.{Refusal}
 use Rattle.ring_records.specs.Notices.{leader_in}
 use Rattle.ring_records.proofs.Notices.{leader_in-kept}
 use Rattle.ring_records.proofs.Prefixes.{prefix_trans}
-use Rattle.decision_board.specs.Boards.{seen, IsWho}
+use Rattle.decision_board.specs.Readers.{seen, IsWho}
 use Rattle.decision_board.proofs.reader.BoardReader.who.Goals.{in-Ok, in-Err}
 use Rattle.decision_board.proofs.reader.BoardReader.who.Goals as goal
 

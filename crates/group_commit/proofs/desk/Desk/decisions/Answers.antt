@@ -6,7 +6,8 @@ use Rattle.ring_records.specs.Floors.{floor_keys}
 use Rattle.ring_records.specs.Known.{after}
 use Rattle.ring_records.specs.Notices.{decided_all}
 use Rattle.ring_records.specs.States.{durable_in}
-use Rattle.group_commit.specs.Content.{content_of, led, leaders_in, retired_all, IsContent}
+use Rattle.group_commit.specs.Content.{content_of, retired_all, IsContent}
+use Rattle.group_commit.specs.Leads.{led, leaders_in}
 use Rattle.group_commit.specs.Desk.{DeskKept, seen}
 use Rattle.group_commit.specs.Past.{IsPast, shifted}
 use Rattle.group_commit.proofs.Inside.{member_in, state_in}

@@ -5,7 +5,8 @@ use Rattle.std.proofs.lemmas.Slice.Eq.{slice_eq-Decides}
 use Rattle.ring_records.specs.declared.input.Input.{Input}
 use Rattle.ring_records.specs.contracts.input.InputPartialEq as derived
 use Rattle.gated_journal.specs.Batch.{kept_in}
-use Rattle.group_commit.specs.Desk.{DeskKept, IsFlying}
+use Rattle.group_commit.specs.Desk.{DeskKept}
+use Rattle.group_commit.specs.DeskCalls.{IsFlying}
 use Rattle.group_commit.proofs.desk.Desk.is_flying.Goals as goal
 
 same : (a b : Input) → Decides ((derived.TheImpl.eq-value).it a b) (a ≡ b)

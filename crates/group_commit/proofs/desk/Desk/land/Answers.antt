@@ -11,7 +11,8 @@ use Rattle.ring_records.specs.States.{launched_base, durable_in, flown_in, flyin
 use Rattle.ring_records.proofs.Counts.{length-filter_map}
 use Rattle.gated_journal.specs.Batch.{kept_in, landed}
 use Rattle.node_core.specs.declared.effects.Effects.{Effects}
-use Rattle.group_commit.specs.Desk.{DeskKept, IsFlying, seen}
+use Rattle.group_commit.specs.Desk.{DeskKept, seen}
+use Rattle.group_commit.specs.DeskCalls.{IsFlying}
 use Rattle.group_commit.specs.Kept.{IsDesk, HoldsFor, area_behind, state_with}
 use Rattle.group_commit.specs.Past.{IsPast}
 use Rattle.group_commit.specs.Outbox.{AreFree, Holds, told_in}

@@ -13,7 +13,8 @@ use Rattle.group_commit.specs.Inputs.{IsKept}
 use Rattle.group_commit.specs.Kept.{AreBelow, AreAnswers, HoldsFor, state_with}
 use Rattle.group_commit.specs.Outbox.{Holds}
 use Rattle.group_commit.specs.Past.{IsPast}
-use Rattle.group_commit.specs.Since.{IsKnownState, core_in}
+use Rattle.group_commit.specs.Since.{IsKnownState}
+use Rattle.group_commit.specs.CoreOf.{core_in}
 use Rattle.group_commit.specs.Ticket.{answered_with, ticket_with}
 use Rattle.group_commit.proofs.Inside.{member_in, area_in, state_in}
 use Rattle.group_commit.proofs.KeptInputs.{counted, kept_more}

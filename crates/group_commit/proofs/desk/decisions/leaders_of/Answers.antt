@@ -3,7 +3,7 @@ use Rattle.std.specs.List.{cons_option, filter_map}
 use Rattle.ring_records.specs.Notices.{decided_all}
 use Rattle.ring_records.proofs.Lists.{filter_map-push}
 use Rattle.ring_records.proofs.Iteration.{IsItem, take-item}
-use Rattle.group_commit.specs.Content.{led}
+use Rattle.group_commit.specs.Leads.{led}
 use Rattle.group_commit.proofs.Leaders.{all-push}
 use Rattle.group_commit.proofs.desk.decisions.leaders_of.Goals as goal
 

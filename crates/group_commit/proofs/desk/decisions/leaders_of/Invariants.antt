@@ -2,7 +2,7 @@ use Rattle.std.proofs.Common.{◌≡◌, ◌≤◌, ◌+◌, ◌-◌, length, ta
 use Rattle.std.specs.List.{filter_map}
 use Rattle.std.specs.Prelude.{vec_len, vec_capacity}
 use Rattle.ring_records.specs.Notices.{decided_all}
-use Rattle.group_commit.specs.Content.{led}
+use Rattle.group_commit.specs.Leads.{led}
 use Rattle.group_commit.proofs.desk.decisions.leaders_of.Given as goal
 
 abbrev pub invariant-loop-state : goal.invariant-loop-state

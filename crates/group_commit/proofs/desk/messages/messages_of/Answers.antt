@@ -7,7 +7,7 @@ use Rattle.ring_records.specs.Emission.{sent}
 use Rattle.ring_records.specs.Known.{Objects, after, sends, stepped}
 use Rattle.ring_records.specs.Member.{member}
 use Rattle.ring_records.proofs.Iteration.{IsItem, take-item}
-use Rattle.node_core.specs.Core.{FreeView}
+use Rattle.node_core.specs.FreeCore.{FreeView}
 use Rattle.group_commit.proofs.Messages.{AreSent, sent-next}
 use Rattle.group_commit.proofs.Past.{follows-take}
 use Rattle.group_commit.proofs.Settling.{after-push, free_at}

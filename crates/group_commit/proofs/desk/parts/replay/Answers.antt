@@ -6,7 +6,8 @@ use Rattle.ring_records.specs.Known.{Objects, stepped, after}
 use Rattle.ring_records.specs.Lists.{EachAfter}
 use Rattle.ring_records.proofs.Iteration.{IsItem}
 use Rattle.node_core.specs.Brought.{brought}
-use Rattle.node_core.specs.Core.{CoreView, Refuses, taking}
+use Rattle.node_core.specs.Core.{CoreView, Refuses}
+use Rattle.node_core.specs.FreeCore.{taking}
 use Rattle.group_commit.specs.Opening.{core_after, IsKnownLawful}
 use Rattle.group_commit.specs.Outbox.{Holds}
 use Rattle.group_commit.proofs.Opening.{objects_none, core-none, core-item, lawful-item, why, why_not, on_ok}

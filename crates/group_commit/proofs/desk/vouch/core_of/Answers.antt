@@ -2,7 +2,7 @@ use Rattle.std.proofs.Common.{rules, ◌≡◌, ◌≤◌, ◌∙◌, None, leng
 use Rattle.std.proofs.lemmas.List.{take_all}
 use Rattle.ring_records.specs.Known.{Objects, after, stepped}
 use Rattle.ring_records.proofs.Iteration.{IsItem, take-item}
-use Rattle.node_core.specs.Core.{FreeView}
+use Rattle.node_core.specs.FreeCore.{FreeView}
 use Rattle.group_commit.proofs.Settling.{after-push, free_at}
 use Rattle.group_commit.proofs.desk.vouch.core_of.Goals as goal
 

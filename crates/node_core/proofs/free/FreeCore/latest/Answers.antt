@@ -1,7 +1,7 @@
 use Rattle.std.proofs.Common.{subst}
 use Rattle.ring_records.specs.Known.{leads_in}
 use Rattle.ring_records.specs.Latest.{IsLatest}
-use Rattle.node_core.specs.Core.{FreeView}
+use Rattle.node_core.specs.FreeCore.{FreeView}
 use Rattle.node_core.proofs.Objections.{latest_in}
 use Rattle.node_core.proofs.free.FreeCore.latest.Goals as goal
 

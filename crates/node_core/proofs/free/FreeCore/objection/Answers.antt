@@ -1,7 +1,7 @@
 use Rattle.std.proofs.Common.{sym, ap, subst}
 use Rattle.ring_records.specs.declared.input.Input.{Input}
 use Rattle.ring_records.specs.Known.{Objects}
-use Rattle.node_core.specs.Core.{FreeView}
+use Rattle.node_core.specs.FreeCore.{FreeView}
 use Rattle.node_core.specs.Kept.{known_with}
 use Rattle.node_core.proofs.Objections.{take_objects, acked_objects, seen}
 use Rattle.node_core.proofs.free.FreeCore.objection.Goals as goal

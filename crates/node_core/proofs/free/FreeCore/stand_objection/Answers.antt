@@ -2,7 +2,7 @@ use Rattle.std.proofs.Common.{ap, subst}
 use Rattle.ring_records.specs.declared.input.Input.TheVariants.{Stand}
 use Rattle.ring_records.specs.declared.summary.Summary.{Summary}
 use Rattle.ring_records.specs.Known.{Objects}
-use Rattle.node_core.specs.Core.{FreeView}
+use Rattle.node_core.specs.FreeCore.{FreeView}
 use Rattle.node_core.proofs.Objections.{stand_objects}
 use Rattle.node_core.proofs.free.FreeCore.stand_objection.Goals as goal
 

@@ -3,7 +3,7 @@ use Rattle.std.specs.Option.{option_map}
 use Rattle.ring_records.specs.Known.{known_of}
 use Rattle.groups_terms.specs.Table.{state_at}
 use Rattle.groups_terms.proofs.States.{get-states_in}
-use Rattle.node_core.specs.Core.{FreeView}
+use Rattle.node_core.specs.FreeCore.{FreeView}
 use Rattle.node_core.proofs.free.FreeCore.state.Goals as goal
 
 pub returns : goal.returns

@@ -3,7 +3,7 @@ use Rattle.ring_records.proofs.Lists.{none≢some}
 use Rattle.std.proofs.lemmas.Option.{same_Some}
 use Rattle.groups_terms.proofs.States.{leader_in}
 use Rattle.node_core.specs.Brought.{who_by}
-use Rattle.node_core.specs.Core.{FreeView}
+use Rattle.node_core.specs.FreeCore.{FreeView}
 use Rattle.node_core.specs.Kept.{known_with}
 use Rattle.node_core.proofs.Refusals.{who_below, who_live}
 use Rattle.node_core.proofs.free.FreeCore.who.Goals as goal

@@ -4,7 +4,7 @@ use Rattle.ring_records.specs.Known.{heard, known_of, leader_of, passed, stood_o
 use Rattle.ring_records.specs.Message.{key_of}
 use Rattle.groups_terms.specs.Table.{state_at}
 use Rattle.groups_terms.proofs.States.{get-states_in}
-use Rattle.node_core.specs.Core.{FreeView}
+use Rattle.node_core.specs.FreeCore.{FreeView}
 use Rattle.node_core.proofs.Steps.{heard-state, passes-state}
 use Rattle.node_core.proofs.free.FreeCore.would_hear.Goals as goal
 

@@ -4,7 +4,8 @@ use Rattle.ring_records.specs.Admission.{newest, snapshot_len}
 use Rattle.ring_records.specs.Known.{Objects}
 use Rattle.node_core.specs.declared.effects.Effects.{Effects}
 use Rattle.node_core.specs.Brought.{brought}
-use Rattle.node_core.specs.Core.{CoreView, FreeView}
+use Rattle.node_core.specs.Core.{CoreView}
+use Rattle.node_core.specs.FreeCore.{FreeView}
 use Rattle.node_core.proofs.Histories.{carries, tells, goes_on}
 use Rattle.node_core.proofs.Measures.{few_inputs, one_more, within_next}
 use Rattle.node_core.proofs.Refusals.{objects_none, stepped_core}

@@ -4,7 +4,7 @@ use Rattle.ring_records.specs.Summary.{empty}
 use Rattle.ring_records.proofs.Counts.{used-each}
 use Rattle.ring_records.proofs.Snapshots.{length-empty}
 use Rattle.ring_records.proofs.Sound.{sound-empty, summary-none}
-use Rattle.node_core.specs.Core.{FreeView}
+use Rattle.node_core.specs.FreeCore.{FreeView}
 use Rattle.node_core.proofs.Retiring.{stood_count}
 use Rattle.node_core.proofs.node.NodeCore.new.Goals as goal
 

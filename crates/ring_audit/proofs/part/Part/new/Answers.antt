@@ -1,5 +1,5 @@
 use Rattle.std.proofs.Common.{refl, ap, sym, ◌∙◌}
-use Rattle.node_core.specs.Core.{FreeView}
+use Rattle.node_core.specs.FreeCore.{FreeView}
 use Rattle.ring_records.proofs.Sound.{summary-none}
 use Rattle.ring_audit.proofs.Kept.{sent_none, allowed_none}
 use Rattle.ring_audit.proofs.part.Part.new.Goals as goal

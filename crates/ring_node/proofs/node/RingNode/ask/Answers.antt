@@ -1,6 +1,7 @@
 use Rattle.std.proofs.Common.{◌≡◌, ◌<◌, ◌^◌, false, ap, sym, subst, ◌∙◌, ◌++◌, ◌∷◌, [], refl}
 use Rattle.ring_records.specs.Outside.{is_outside}
-use Rattle.group_commit.specs.Desk.{ticket_for, seen, submitted}
+use Rattle.group_commit.specs.Desk.{seen}
+use Rattle.group_commit.specs.DeskCalls.{ticket_for, submitted}
 use Rattle.group_commit.specs.Ticket.{shown, ticket_with}
 use Rattle.group_commit.proofs.Seen.{submitted_seen}
 use Rattle.ring_node.specs.Node.{NodeView, asked_with}

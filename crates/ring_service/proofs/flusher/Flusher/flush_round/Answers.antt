@@ -5,9 +5,9 @@ use Rattle.gated_journal.specs.Areas.{AllReadAs}
 use Rattle.group_commit.specs.declared.landed.Landed.{Landed}
 use Rattle.commit_hub.specs.Holders.{known_by, view_by}
 use Rattle.gated_journal.specs.Reading.{Reading}
-use Rattle.commit_hub.specs.Tied.{Durable}
+use Rattle.group_commit.specs.Next.{Durable, IsNext}
 use Rattle.commit_hub.specs.Told.{IsBrought}
-use Rattle.commit_hub.specs.Works.{flown_by, summary_by, IsNext}
+use Rattle.gated_journal.specs.Works.{flown_by, summary_by}
 use Rattle.gated_journal.specs.Works.{reading_after}
 use Rattle.ring_service.specs.Rounds.{known_behind}
 use Rattle.commit_hub.proofs.Works.{of_some}
