@@ -5,7 +5,8 @@ ghost use Rattle.ring_records.specs.Admission.{used};
 ghost use Rattle.ring_records.specs.States.{durable_in};
 ghost use Rattle.node_core.specs.Core.{IsNodeOf};
 ghost use Rattle.commit_hub.specs.Over.{is_over};
-ghost use Rattle.commit_hub.specs.Pages.{places_of, ForAccepted, ForTie};
+ghost use Rattle.commit_hub.specs.Pages.{ForAccepted, ForTie};
+ghost use Rattle.commit_hub.specs.Places.{places_of};
 
 use crate::devices::{CAPACITY, in_memory, next_file};
 use crate::fault::Fault;

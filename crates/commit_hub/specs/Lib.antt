@@ -2,6 +2,7 @@ pub mod Desks
 pub mod Holders
 pub mod Over
 pub mod Pages
+pub mod Places
 pub mod Props
 pub mod Stances
 pub mod Tied

@@ -20,7 +20,7 @@ pub struct Blanks {
 }
 
 impl Blanks {
-    ghost use Rattle.commit_hub.specs.Pages.{places_of};
+    ghost use Rattle.commit_hub.specs.Places.{places_of};
 
     /// Those of a hub that can give so many shares, at most 1,000,000.
     pub fn new(places: u32) -> Blanks

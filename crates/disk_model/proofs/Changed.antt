@@ -2,7 +2,8 @@
 use Rattle.std.proofs.Common.{◌≡◌, inl, inr, ⊎_elim, ℕ, ◌+◌, ◌≤◌, ◌<◌, List, [], ◌∷◌, ◌++◌, length, get_or, refl, sym, ◌∙◌, subst, arith}
 use Rattle.std.proofs.lemmas.Bool.{cases_lt}
 use Rattle.std.proofs.lemmas.List.{get_or_past}
-use Rattle.disk_model.specs.Disk.{Disk, IsTorn, IsSynced}
+use Rattle.disk_model.specs.Disk.{Disk, IsTorn}
+use Rattle.disk_model.specs.Synced.{IsSynced}
 use Rattle.disk_model.specs.Calls.{Puts, Changes}
 use Rattle.disk_model.proofs.Ranges.{puts_sizes}
 

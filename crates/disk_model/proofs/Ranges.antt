@@ -2,7 +2,8 @@
 use Rattle.std.proofs.Common.{◌≡◌, ◌⊎◌, inl, inr, ⊎_elim, ℕ, ◌+◌, ◌≤◌, ◌<◌, max, List, [], ◌∷◌, ◌++◌, length, ◌∙◌, sym, subst, Result, Ok, Err, OnOk, OnErr, refl, arith}
 use Rattle.std.proofs.lemmas.Bool.{cases_lt}
 use Rattle.std.proofs.lemmas.List.{ext_get_or}
-use Rattle.disk_model.specs.Disk.{Disk, IsOutside, greatest_end, IsTorn, MayLeave, IsSynced, synced}
+use Rattle.disk_model.specs.Disk.{Disk, IsOutside, greatest_end, IsTorn, MayLeave, synced}
+use Rattle.disk_model.specs.Synced.{IsSynced}
 use Rattle.disk_model.specs.Calls.{IsInside, Puts, Unsyncs}
 
 pub outside_push : (ranges : List (ℕ × ℕ)) (off n i : ℕ) → IsOutside (ranges ++ (off, n) ∷ []) i → IsOutside ranges i × ((i < off) ⊎ (off + n ≤ i))

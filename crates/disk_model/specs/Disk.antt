@@ -32,15 +32,6 @@ pub record IsTorn (stable : List ℕ) (ranges : List (ℕ × ℕ)) (image : List
 abbrev pub MayLeave : Disk → List ℕ → Type 0
 MayLeave disk image = IsTorn disk.stable disk.ranges image
 
--- the same disk, of which a read gives this
-abbrev pub with_image : Disk → List ℕ → Disk
-with_image disk image = record { image = image; stable = disk.stable; ranges = disk.ranges }
-
--- a stop may leave what a read gives and nothing else
-pub record IsSynced (disk : Disk) : Type 0 where
-  pub stable : disk.stable ≡ disk.image
-  pub ranges : disk.ranges ≡ []
-
 -- ---- what the calls do
 
 -- what a read gives becomes the stable image

@@ -1,5 +1,5 @@
 -- Which calls a fuse lets fail. They are numbered from 0, the next one.
-use Rattle.std.specs.Prelude.{ℕ, Bool, true, false, nat_eq, nat_le, if◌then◌else◌}
+use Rattle.std.specs.Prelude.{ℕ, Bool, false, nat_eq, nat_le, if◌then◌else◌}
 use Rattle.disk_model.specs.declared.fuse.Fuse.{Fuse}
 use Rattle.disk_model.specs.declared.fuse.Fuse.TheVariants.{Idle, Armed, Spent}
 
@@ -11,9 +11,3 @@ abbrev pub fails_at : Fuse → ℕ → Bool
 fails_at Idle k = false
 fails_at (Armed after once) k = planned after once k
 fails_at Spent k = false
-
--- it was never armed
-abbrev pub is_idle : Fuse → Bool
-is_idle Idle = true
-is_idle (Armed after once) = false
-is_idle Spent = false

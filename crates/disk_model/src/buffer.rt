@@ -1,6 +1,7 @@
 // A device's bytes in memory.
 ghost use Rattle.std.specs.Prelude.{◌≡◌, ◌↔◌, ◌⊎◌, ◌+◌, ◌^◌, ◌<◌, ◌≤◌, ◌++◌, ◌∷◌, [], ℕ, min, max, length, take, drop, true, false, slice_index, IfOk, OnOk, OnErr, IsOk};
-ghost use Rattle.disk_model.specs.Disk.{IsTorn, IsOutside, with_image};
+ghost use Rattle.disk_model.specs.Disk.{IsTorn, IsOutside};
+ghost use Rattle.disk_model.specs.Synced.{with_image};
 ghost use Rattle.disk_model.specs.Calls.{IsUnsynced, IsPart, Puts, Unsyncs, Fills, Elapses, HasCause, IsInReach};
 ghost use Rattle.disk_model.specs.Shadow.{room_of, is_written, byte_before};
 

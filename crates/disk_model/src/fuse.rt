@@ -2,7 +2,8 @@
 ghost use Rattle.std.specs.Prelude.{◌≡◌, ◌+◌, ◌-◌, ◌^◌, ◌<◌, ◌≤◌, min, ℕ, false, if◌then◌else◌, IsTrue, IsErr, OnOk, OnErr, length};
 ghost use Rattle.disk_model.specs.Disk.{synced, Reaches};
 ghost use Rattle.disk_model.specs.Calls.{IsPart, Puts, Unsyncs, Elapses, HasCause, IsInReach};
-ghost use Rattle.disk_model.specs.Fuse.{is_idle, fails_at, planned};
+ghost use Rattle.disk_model.specs.Fuse.{fails_at, planned};
+ghost use Rattle.disk_model.specs.Unarmed.{is_idle};
 
 use crate::{Device, DeviceFault, SystemCall, SystemFault};
 use std::io::ErrorKind;
@@ -57,7 +58,8 @@ fn blows(fuse: &mut Fuse, faults: &mut u64) -> bool
 }
 
 impl<D: Device> FuseDevice<D> {
-    ghost use Rattle.disk_model.specs.FuseDevice.{inner_of, will_fail, is_idle_device, own_faults};
+    ghost use Rattle.disk_model.specs.FuseDevice.{inner_of, will_fail, own_faults};
+    ghost use Rattle.disk_model.specs.Unarmed.{is_idle_device};
 
     /// A device that passes `after` calls and then fails: the next call alone if `once`, else all later ones.
     pub fn new(inner: D, after: u64, once: bool) -> FuseDevice<D>
@@ -109,7 +111,8 @@ impl<D: Device> FuseDevice<D> {
 }
 
 impl<D: Device> Device for FuseDevice<D> {
-    ghost use Rattle.disk_model.specs.FuseDevice.{inner_of, will_fail, count_of, reach_of};
+    ghost use Rattle.disk_model.specs.FuseDevice.{inner_of, will_fail};
+    ghost use Rattle.disk_model.specs.Unarmed.{count_of, reach_of};
 
     ghost disk = { λ device. D.Device.disk (inner_of device) };
 

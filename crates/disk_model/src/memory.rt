@@ -1,6 +1,7 @@
 // A device in memory, for tests and simulations.
 ghost use Rattle.std.specs.Prelude.{◌≡◌, ◌↔◌, ◌+◌, ◌<◌, ◌≤◌, [], ℕ, List, length, true, false, slice_index, IsOk, IfOk, OnOk, OnErr};
-ghost use Rattle.disk_model.specs.Disk.{MayLeave, IsOutside, with_image};
+ghost use Rattle.disk_model.specs.Disk.{MayLeave, IsOutside};
+ghost use Rattle.disk_model.specs.Synced.{with_image};
 ghost use Rattle.disk_model.specs.Calls.{IsUnsynced, IsPart, Puts, Unsyncs, Fills, Elapses, HasCause, IsInReach};
 ghost use Rattle.disk_model.specs.Buffer as buffer;
 ghost use Rattle.disk_model.specs.Shadow.{is_written, byte_before};

@@ -1,6 +1,7 @@
 // The step that durable parts are made of.
 ghost use Rattle.std.specs.Prelude.{◌≡◌, ◌+◌, ◌++◌, ◌∷◌, [], length, OnOk};
-ghost use Rattle.disk_model.specs.Disk.{IsTorn, IsSynced, LeavesOnly};
+ghost use Rattle.disk_model.specs.Disk.{IsTorn, LeavesOnly};
+ghost use Rattle.disk_model.specs.Synced.{IsSynced};
 ghost use Rattle.disk_model.specs.Calls.{Puts, HasCause, IsInReach};
 
 use crate::{Device, DeviceFault};

@@ -3,7 +3,8 @@ use Rattle.std.proofs.Common.{◌≡◌, inl, inr, ⊎_elim, ℕ, ◌+◌, ◌�
 use Rattle.std.proofs.Math.Logic.{∥∥₁_elim}
 use Rattle.std.proofs.Math.Nat.{ℕ_set}
 use Rattle.std.proofs.Math.Bridge.{le_prop}
-use Rattle.disk_model.specs.Disk.{Disk, MayLeave, IsSynced}
+use Rattle.disk_model.specs.Disk.{Disk, MayLeave}
+use Rattle.disk_model.specs.Synced.{IsSynced}
 use Rattle.disk_model.specs.Calls.{Changes}
 use Rattle.disk_model.proofs.Ranges.{synced_only}
 use Rattle.ring_records.specs.declared.input.Input.{Input}

@@ -1,6 +1,7 @@
 -- A journal at rest, by the place where it stands on its device.
 use Rattle.std.specs.Prelude.{◌≡◌, ◌-◌, ℕ, List}
-use Rattle.disk_model.specs.Disk.{Disk, IsSynced}
+use Rattle.disk_model.specs.Disk.{Disk}
+use Rattle.disk_model.specs.Synced.{IsSynced}
 use Rattle.ring_records.specs.Member.{Member}
 use Rattle.gated_journal.specs.Areas.{ReadsAt}
 use Rattle.gated_journal.specs.AreaWritten.{IsGate}

@@ -1,6 +1,7 @@
 //! The four device calls of a commit.
 ghost use Rattle.std.specs.Prelude.{◌≡◌, ◌+◌, ◌++◌, ◌<◌, ◌^◌, ℕ, List, length, OnOk};
-ghost use Rattle.disk_model.specs.Disk.{IsSynced, LeavesOnly};
+ghost use Rattle.disk_model.specs.Disk.{LeavesOnly};
+ghost use Rattle.disk_model.specs.Synced.{IsSynced};
 ghost use Rattle.disk_model.specs.Calls.{Changes, HasCause, IsInReach};
 ghost use Rattle.ring_records.specs.declared.input.Input.{Input};
 ghost use Rattle.gated_journal.specs.Frames.{ReadsTo};

@@ -1,6 +1,6 @@
 //! A new device of two areas.
 ghost use Rattle.std.specs.Prelude.{◌≡◌, ◌+◌, ◌*◌, true, IfOk, OnOk};
-ghost use Rattle.disk_model.specs.Disk.{IsSynced};
+ghost use Rattle.disk_model.specs.Synced.{IsSynced};
 ghost use Rattle.disk_model.specs.Calls.{HasCause, IsInReach};
 ghost use Rattle.ring_records.specs.Admission.{newest};
 ghost use Rattle.ring_records.specs.Member.{member};

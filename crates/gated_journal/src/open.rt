@@ -1,6 +1,7 @@
 //! What a device holds, read from its start.
 ghost use Rattle.std.specs.Prelude.{◌≡◌, ◌≤◌, ◌⊎◌, ℕ, List, Ok, Err, length, take, IfOk, IfErr, OnOk, OnErr};
-ghost use Rattle.disk_model.specs.Disk.{MayLeave, IsSynced, LeavesOnly, Reaches, synced};
+ghost use Rattle.disk_model.specs.Disk.{MayLeave, LeavesOnly, Reaches, synced};
+ghost use Rattle.disk_model.specs.Synced.{IsSynced};
 ghost use Rattle.disk_model.specs.Calls.{IsInReach};
 ghost use Rattle.ring_records.specs.declared.refusal.Refusal.TheVariants.{OutOfMemory};
 ghost use Rattle.ring_records.specs.Member.{member};

@@ -1,6 +1,7 @@
 //! Where a journal stands on its device, and how it comes to stand behind a work.
 ghost use Rattle.std.specs.Prelude.{◌≡◌, ◌+◌, ◌≤◌, ◌^◌, length, OnOk};
-ghost use Rattle.disk_model.specs.Disk.{LeavesOnly, IsSynced};
+ghost use Rattle.disk_model.specs.Disk.{LeavesOnly};
+ghost use Rattle.disk_model.specs.Synced.{IsSynced};
 ghost use Rattle.disk_model.specs.Calls.{HasCause, IsInReach};
 ghost use Rattle.ring_records.specs.declared.limits.TheConstants.{GREATEST_CAPACITY, LEAST_CAPACITY};
 ghost use Rattle.ring_records.specs.Admission.{costs_of};

@@ -17,7 +17,7 @@ use Rattle.ring_records.specs.declared.notice.Notice.TheVariants.{Decided, Retir
 use Rattle.ring_records.specs.declared.summary.Summary.{Summary}
 use Rattle.ring_records.specs.Floors.{floor_keys}
 use Rattle.ring_records.specs.KeyOrder.{key_cmp}
-use Rattle.ring_records.specs.KeyStates.{by_state}
+use Rattle.ring_records.specs.StateOrder.{by_state}
 use Rattle.ring_records.specs.Leader.{leader}
 use Rattle.ring_records.specs.Notices.{decided_all}
 use Rattle.ring_records.specs.Release.{by_key, AreLeaders}

@@ -51,7 +51,7 @@ use Rattle.group_commit.specs.CoreOf.{IsOf, core_in}
 use Rattle.group_commit.specs.Replying.{Replies, who_reply}
 use Rattle.group_commit.specs.Past.{IsPast, moved, shifted}
 use Rattle.group_commit.specs.Since.{IsOpenSince, IsLawfulSince, IsAreaOf, IsKnownState}
-use Rattle.group_commit.specs.Ticket.{answered_with}
+use Rattle.group_commit.specs.DeskCalls.{answered_with}
 use Rattle.group_commit.specs.Outbox.{AreFree, brought_after}
 use Rattle.group_commit.proofs.Opening.{EachAfter-from}
 use Rattle.group_commit.proofs.Settling.{after-push, drop-front}

@@ -16,7 +16,7 @@ use Rattle.ring_records.specs.Known.{Objects, after}
 use Rattle.ring_records.specs.Lists.{EachAfter}
 use Rattle.ring_records.specs.Member.{Member}
 use Rattle.ring_records.specs.States as states
-use Rattle.ring_records.specs.Serving as serving
+use Rattle.ring_records.specs.Launching as launching
 use Rattle.ring_records.specs.Snapshot.{snapshot_len}
 use Rattle.ring_records.specs.States.{NodeState, launched_base, durable_in, flown_in}
 use Rattle.ring_records.specs.Serving.{gained_by}
@@ -125,7 +125,7 @@ known_allowed m opening base past l is lawful =
 -- all its inputs fly, as a checkpoint
 pub launched_all_seen : (past : List Input) (d : DeskKept) → IsPast d.view.member d.opening past
     → after d.view.member.node d.opening d.view.state.inputs ≡ summary d.view.member.node (past ++ d.view.state.inputs)
-    → seen past (record d { view = launched_all d }) ≡ record (seen past d) { state = serving.launched_all d.view.member.node (seen past d).state }
+    → seen past (record d { view = launched_all d }) ≡ record (seen past d) { state = launching.launched_all d.view.member.node (seen past d).state }
 launched_all_seen past d is knows =
     let s = d.view.state in
     let size = length-append past s.inputs in
@@ -137,7 +137,7 @@ launched_all_seen past d is knows =
     }
 
 pub lawful_launched_all : (past : List Input) (d : DeskKept) → IsPast d.view.member d.opening past → IsLawfulState d.view.member (seen past d).state
-    → seen past (record d { view = launched_all d }) ≡ record (seen past d) { state = serving.launched_all d.view.member.node (seen past d).state }
+    → seen past (record d { view = launched_all d }) ≡ record (seen past d) { state = launching.launched_all d.view.member.node (seen past d).state }
 lawful_launched_all past d is lawful = launched_all_seen past d is (known_allowed d.view.member d.opening (launched_base (seen past d).state) past d.view.state.inputs is lawful.all)
 
 -- what a snapshot of its first inputs, so many of them, stands for is a past of its node

@@ -1,12 +1,14 @@
 -- What further calls make of a desk, and what of it flies.
-use Rattle.std.specs.Prelude.{◌≡◌, ◌+◌, if◌then◌else◌, [], ◌∷◌, ◌++◌, is_none}
+use Rattle.std.specs.Prelude.{◌≡◌, ◌+◌, if◌then◌else◌, [], ◌∷◌, ◌++◌, is_none, ℕ}
 use Rattle.std.specs.Option.{option_map}
 use Rattle.ring_records.specs.declared.request.Request.{Request}
-use Rattle.ring_records.specs.Serving as serving
+use Rattle.ring_records.specs.Launching as launching
 use Rattle.ring_records.specs.States.{flying_in}
 use Rattle.gated_journal.specs.Batch.{Numbered}
 use Rattle.group_commit.specs.Ticket.{TicketView, ticket_with}
 use Rattle.group_commit.specs.Desk.{DeskView, DeskKept, answered}
+use Rattle.ring_records.specs.declared.reply.Reply.{Reply}
+use Rattle.ring_records.specs.Answer.{Answered}
 
 -- the ticket that it gives for a request
 abbrev pub ticket_for : Request → DeskView → TicketView
@@ -15,7 +17,7 @@ ticket_for q desk = ticket_with desk.member.node desk.run desk.issued (answered 
 -- it gave a ticket for the request
 abbrev pub submitted : Request → DeskView → DeskView
 submitted q desk = record desk {
-  state = serving.asked desk.member desk.state q;
+  state = launching.asked desk.member desk.state q;
   tickets = desk.tickets ++ (desk.issued, answered desk q) ∷ [];
   issued = desk.issued + 1;
 }
@@ -31,3 +33,6 @@ pub record IsFlying (desk : DeskKept) (batch : Numbered) : Type 0 where
   pub first : batch.first ≡ desk.opening.inputs + desk.view.state.durable
   pub inputs : batch.inputs ≡ flying_in desk.view.state
   pub snapshot : batch.snapshot ≡ option_map (λ b. b.bytes) desk.view.state.checkpoint
+
+abbrev pub answered_with : Request → Reply → ℕ → Answered
+answered_with q reply number = record { question = q; answer = record { reply = reply; number = number } }

@@ -1,6 +1,5 @@
 -- What a ticket and a stub show.
 use Rattle.std.specs.Prelude.{ℕ}
-use Rattle.ring_records.specs.declared.reply.Reply.{Reply}
 use Rattle.ring_records.specs.declared.request.Request.{Request}
 use Rattle.ring_records.specs.Answer.{Answered}
 use Rattle.group_commit.specs.declared.ticket.Ticket.{Ticket}
@@ -19,6 +18,3 @@ ticket_with node run own answered = record { node = node; run = run; own = own; 
 
 abbrev pub shown : Ticket → TicketView
 shown ticket = record { node = ticket.node; run = ticket.run; own = ticket.own; question = ticket.question; number = ticket.number }
-
-abbrev pub answered_with : Request → Reply → ℕ → Answered
-answered_with q reply number = record { question = q; answer = record { reply = reply; number = number } }

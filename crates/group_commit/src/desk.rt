@@ -88,7 +88,8 @@ impl Desk {
     ghost use Rattle.group_commit.specs.Opening.{IsKnownLawful, IsUnlawful};
     ghost use Rattle.group_commit.specs.Past.{IsPast};
     ghost use Rattle.gated_journal.specs.Opened.{reading_of_opening};
-    ghost use Rattle.group_commit.specs.Ticket.{shown, answered_with};
+    ghost use Rattle.group_commit.specs.Ticket.{shown};
+    ghost use Rattle.group_commit.specs.DeskCalls.{answered_with};
 
     /// The desk of a node whose journal holds this: the inputs that its summary stands for, and those since, all of them
     /// durable. The caller sees that the summary is sound for a ring of `n`. Refused as 24 with the number of the first

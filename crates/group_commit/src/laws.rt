@@ -5,7 +5,7 @@ ghost use Rattle.ring_records.specs.declared.refusal.Refusal.{Refusal};
 ghost use Rattle.ring_records.specs.Lawful.{IsLawful, IsLawfulState};
 ghost use Rattle.ring_records.specs.Known.{after};
 ghost use Rattle.ring_records.specs.Member.{Member};
-ghost use Rattle.ring_records.specs.Serving as serving;
+ghost use Rattle.ring_records.specs.Launching as launching;
 ghost use Rattle.ring_records.specs.Summary.{empty};
 ghost use Rattle.gated_journal.specs.Reading.{Reading};
 ghost use Rattle.group_commit.specs.Desk.{DeskKept, core_of, first_base, seen, launched, landed};
@@ -28,7 +28,7 @@ pub fn pasts()
 pub fn flights()
     ensures batch { (past : List Input) (desk : DeskKept) → seen past (record desk { view = launched desk.view }) ≡ launched (seen past desk) }
     ensures checkpoint { (past : List Input) (desk : DeskKept) → IsPast desk.view.member desk.opening past → IsLawfulState desk.view.member (seen past desk).state
-        → seen past (record desk { view = launched_all desk }) ≡ record (seen past desk) { state = serving.launched_all desk.view.member.node (seen past desk).state } }
+        → seen past (record desk { view = launched_all desk }) ≡ record (seen past desk) { state = launching.launched_all desk.view.member.node (seen past desk).state } }
     ensures landed { (past : List Input) (desk : DeskKept) → seen past (record desk { view = landed desk.view }) ≡ landed (seen past desk) }
     ensures first { (past : List Input) (desk : DeskKept) (k : ℕ) → IsPast desk.view.member desk.opening past → IsLawfulState desk.view.member (seen past desk).state
         → IsPast desk.view.member (after desk.view.member.node desk.opening (take k desk.view.state.inputs)) (past ++ take k desk.view.state.inputs) }

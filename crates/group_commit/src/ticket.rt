@@ -44,7 +44,7 @@ pub struct Stub {
 
 impl Model for Stub {
     ghost use Rattle.ring_records.specs.Answer.{Answered};
-    ghost use Rattle.group_commit.specs.Ticket.{answered_with};
+    ghost use Rattle.group_commit.specs.DeskCalls.{answered_with};
 
     ghost Value = { Answered };
 

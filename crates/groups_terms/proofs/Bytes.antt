@@ -19,7 +19,8 @@ use Rattle.ring_records.specs.declared.key.Key.{Key}
 use Rattle.ring_records.specs.declared.key_state.KeyState.{KeyState}
 use Rattle.ring_records.specs.Admission.{state_len}
 use Rattle.ring_records.specs.KeyOrder.{key_cmp}
-use Rattle.ring_records.specs.KeyStates.{by_state, under_key, keyed}
+use Rattle.ring_records.specs.KeyStates.{under_key, keyed}
+use Rattle.ring_records.specs.StateOrder.{by_state}
 use Rattle.ring_records.specs.Known.{drops}
 use Rattle.ring_records.proofs.Compare.{keys_total, keys_exact}
 use Rattle.ring_records.proofs.KeyRange.{key_at, terms_in_order, within_group, same_group}

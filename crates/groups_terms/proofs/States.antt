@@ -14,9 +14,10 @@ use Rattle.std.proofs.lemmas.Map.Keys.{sorted_head}
 use Rattle.ring_records.specs.declared.key.Key.{Key}
 use Rattle.ring_records.specs.declared.key_state.KeyState.{KeyState}
 use Rattle.ring_records.specs.KeyOrder.{key_cmp}
-use Rattle.ring_records.specs.KeyStates.{by_state, under_key, keyed}
+use Rattle.ring_records.specs.KeyStates.{under_key, keyed}
+use Rattle.ring_records.specs.StateOrder.{by_state}
 use Rattle.ring_records.specs.Known.{stood_of, leader_of}
-use Rattle.ring_records.specs.Latest.{noted}
+use Rattle.ring_records.specs.Noted.{noted}
 use Rattle.ring_records.specs.Order.{is_key}
 use Rattle.ring_records.proofs.Compare.{keys_total, keys_exact, get-put}
 use Rattle.ring_records.proofs.Keys.{is_key-true}

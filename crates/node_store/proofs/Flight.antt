@@ -44,7 +44,7 @@ use Rattle.group_commit.proofs.Past.{flying-shifted}
 use Rattle.group_commit.proofs.Seen.{launched_shifted, landed_shifted, lawful_launched_all}
 use Rattle.gated_journal.specs.declared.work.Work.{Work}
 use Rattle.gated_journal.specs.declared.work.Work.TheVariants as work
-use Rattle.node_store.specs.Recovery.{IsUnbegun}
+use Rattle.node_store.specs.Unbegun.{IsUnbegun}
 use Rattle.node_store.specs.Standing.{Stands}
 use Rattle.node_store.specs.Flying.{Flies}
 use Rattle.node_store.specs.State.{MayBeLeft, area_with, durable_held, flown_held}

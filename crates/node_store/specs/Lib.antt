@@ -4,3 +4,4 @@ pub mod Props
 pub mod Recovery
 pub mod Standing
 pub mod State
+pub mod Unbegun

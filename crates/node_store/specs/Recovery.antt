@@ -1,7 +1,6 @@
 -- Why a node is not opened again, and why it begins no checkpoint.
 use Rattle.std.specs.Prelude.{◌≡◌, ◌⊎◌, ℕ, List}
 use Rattle.ring_records.specs.declared.refusal.Refusal.{Refusal}
-use Rattle.ring_records.specs.declared.refusal.Refusal.TheVariants as refused
 use Rattle.ring_records.specs.declared.refusal.Refusal.TheVariants.{OutOfMemory}
 use Rattle.ring_records.specs.Member.{member}
 use Rattle.gated_journal.specs.Areas.{ReadsAs}
@@ -27,7 +26,3 @@ pub record IsShort (node n : ℕ) (image : List ℕ) (why : Refusal) : Type 0 wh
 -- the node's journal is not opened, or it is, and the node does not stand for what it holds
 pub record IsUnrecovered (node n before now : ℕ) (image : List ℕ) (why : Refusal) : Type 0 where
   pub cause : IsUnopened node n before now image why ⊎ (IsNotLawful node n image why ⊎ IsShort node n image why)
-
--- a checkpoint that is refused so was not begun: as 9, as 6, as 7 or as 8
-abbrev pub IsUnbegun : Refusal → Type 0
-IsUnbegun why = (why ≡ refused.Failed) ⊎ ((why ≡ refused.Limit) ⊎ ((why ≡ refused.Full) ⊎ (why ≡ OutOfMemory)))

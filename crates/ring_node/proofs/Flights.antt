@@ -29,7 +29,7 @@ use Rattle.group_commit.specs.Launching.{checkpoint_objection, needs_checkpoint}
 use Rattle.group_commit.specs.Opening.{waits_for_area}
 use Rattle.group_commit.specs.Past.{IsPast, moved}
 use Rattle.group_commit.proofs.Seen.{launched_seen, landed_seen, lawful_launched_all}
-use Rattle.node_store.specs.Recovery.{IsUnbegun}
+use Rattle.node_store.specs.Unbegun.{IsUnbegun}
 use Rattle.ring_node.specs.declared.flight.Flight.{Flight}
 use Rattle.ring_node.specs.declared.flight.Flight.TheVariants.{Batch, Checkpoint}
 use Rattle.ring_node.specs.Held.{HeldView, view_with, AreHeld, AreInside, IsServed, IsWhole, MayFly, MayBegin, MayStop, launched_by, flies}

@@ -11,7 +11,8 @@ use Rattle.ring_records.specs.declared.base.Base.{Base}
 use Rattle.ring_records.specs.Admission.{fresh, newest}
 use Rattle.ring_records.specs.Lawful.{IsLawful, IsLawfulState}
 use Rattle.disk_model.specs.Disk.{Reach, Reaches}
-use Rattle.disk_model.specs.FuseDevice.{inner_of, is_idle_device}
+use Rattle.disk_model.specs.FuseDevice.{inner_of}
+use Rattle.disk_model.specs.Unarmed.{is_idle_device}
 use Rattle.disk_model.specs.MemDevice.{disk_of, limit_of}
 use Rattle.disk_model.specs.declared.fuse.FuseDevice.{FuseDevice}
 use Rattle.disk_model.specs.declared.memory.MemDevice.{MemDevice}

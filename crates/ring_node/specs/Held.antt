@@ -1,7 +1,7 @@
 -- A node at work with its open tickets, and the messages that it sent.
 use Rattle.std.specs.Prelude.{ℕ, ◌≡◌, ◌+◌, ◌<◌, ◌≤◌, true, false, List, [], ◌∷◌, ◌++◌, length, Option, None}
 use Rattle.disk_model.specs.Disk.{Reach, Reaches}
-use Rattle.disk_model.specs.FuseDevice as fuse
+use Rattle.disk_model.specs.Unarmed as fuse
 use Rattle.disk_model.specs.MemDevice as memory
 use Rattle.disk_model.specs.declared.fuse.FuseDevice.{FuseDevice}
 use Rattle.disk_model.specs.declared.memory.MemDevice.{MemDevice}

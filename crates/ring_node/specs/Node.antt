@@ -4,7 +4,8 @@ use Rattle.ring_records.specs.declared.base.Base.{Base}
 use Rattle.ring_records.specs.declared.input.Input.{Input}
 use Rattle.ring_records.specs.declared.request.Request.{Request}
 use Rattle.ring_records.specs.States.{NodeState, launched_base, launched, left_by}
-use Rattle.ring_records.specs.Serving.{gained_by, answered_by, launched_all}
+use Rattle.ring_records.specs.Serving.{gained_by, answered_by}
+use Rattle.ring_records.specs.Launching.{launched_all}
 use Rattle.ring_records.specs.Admission.{fresh}
 use Rattle.ring_records.specs.Emission.{sent}
 use Rattle.ring_records.specs.History.{credit}

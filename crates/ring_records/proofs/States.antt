@@ -15,7 +15,8 @@ use Rattle.ring_records.specs.Answer as by_rule
 use Rattle.ring_records.specs.Lists.{EachAfter}
 use Rattle.ring_records.specs.Member.{Member}
 use Rattle.ring_records.specs.States.{NodeState, launched_base, is_idle, durable_in, flown_in, opened, launched, landed, left_by}
-use Rattle.ring_records.specs.Serving.{gained_by, asked, next_base, launched_all}
+use Rattle.ring_records.specs.Serving.{gained_by}
+use Rattle.ring_records.specs.Launching.{asked, next_base, launched_all}
 use Rattle.ring_records.specs.Summary.{summary}
 use Rattle.ring_records.proofs.Admission.{refusal-admitted}
 use Rattle.ring_records.proofs.Growth.{EachAfter-take}

@@ -13,7 +13,8 @@ use Rattle.std.proofs.lemmas.Map.Keys.{sorted_from_all_adjacent, Less-from_sorte
 use Rattle.ring_records.specs.declared.key.Key.{Key}
 use Rattle.ring_records.specs.declared.key_state.KeyState.{KeyState}
 use Rattle.ring_records.specs.KeyOrder.{key_cmp}
-use Rattle.ring_records.specs.KeyStates.{by_state, under_key, keyed}
+use Rattle.ring_records.specs.KeyStates.{under_key, keyed}
+use Rattle.ring_records.specs.StateOrder.{by_state}
 use Rattle.std.specs.Map.{lookup}
 use Rattle.std.proofs.lemmas.Option.{same_Some}
 use Rattle.ring_records.specs.Order.{is_key}

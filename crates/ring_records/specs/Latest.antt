@@ -1,17 +1,8 @@
 -- Which term of a group is the greatest that has a leader, told by the leaders of its terms.
-use Rattle.std.specs.Prelude.{ℕ, ◌≡◌, ◌<◌, if◌then◌else◌, List, Option, Some, None}
-use Rattle.std.specs.Str.{bytes_eq}
+use Rattle.std.specs.Prelude.{ℕ, ◌≡◌, ◌<◌, Option, Some, None}
 use Rattle.ring_records.specs.declared.candidate.Candidate.{Candidate}
-use Rattle.ring_records.specs.declared.key.Key.{Key}
-use Rattle.ring_records.specs.Leader.{greater_term}
 
 -- by the leaders of a group's terms: o is the greatest term that has one, and that leader
 abbrev pub IsLatest : (ℕ → Option Candidate) → Option (ℕ × Candidate) → Type 0
 IsLatest leads None = (term : ℕ) → leads term ≡ None
 IsLatest leads (Some p) = (leads p.0 ≡ Some p.1) × ((term : ℕ) → p.0 < term → leads term ≡ None)
-
--- the latest leader of a group, once the leader for a key went from `before` to `now`
-abbrev pub noted : Option Candidate → Option Candidate → Key → List ℕ → Option (ℕ × Candidate) → Option (ℕ × Candidate)
-noted None None key group known = known
-noted None (Some c) key group known = if bytes_eq key.group group then greater_term known (key.term, c) else known
-noted (Some b) now key group known = known

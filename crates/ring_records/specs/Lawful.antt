@@ -5,7 +5,7 @@ use Rattle.ring_records.specs.declared.input.Input.{Input}
 use Rattle.ring_records.specs.declared.room.Room.{Room}
 use Rattle.ring_records.specs.Lists.{EachAfter}
 use Rattle.ring_records.specs.Summary.{summary}
-use Rattle.ring_records.specs.Admission.{snapshot_len, newest, epochs, cost, room_of, must_renew, base_of, fresh, used}
+use Rattle.ring_records.specs.Admission.{snapshot_len, newest, epochs, cost, room_of, must_renew, base_of}
 use Rattle.ring_records.specs.Allowed.{IsAllowed}
 use Rattle.ring_records.specs.Member.{Member}
 use Rattle.ring_records.specs.States.{NodeState, launched_base, durable_in, flown_in}
@@ -14,10 +14,6 @@ use Rattle.ring_records.specs.States.{NodeState, launched_base, durable_in, flow
 pub record IsBaseOf (me : ℕ) (base : Base) (h : List Input) : Type 0 where
   pub within : base.inputs ≤ length h
   pub is : base ≡ base_of base.layout base.epoch (summary me (take base.inputs h))
-
--- those that h takes while none of its inputs is summarised
-abbrev pub used_by : List Input → ℕ
-used_by h = used fresh h
 
 -- the input fits, behind which a snapshot has so many bytes
 pub record HasRoom (capacity : ℕ) (room : Room) (x : Input) (renewed : ℕ) : Type 0 where

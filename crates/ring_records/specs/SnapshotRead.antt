@@ -18,7 +18,7 @@ use Rattle.ring_records.specs.Admission.{has_floors}
 use Rattle.ring_records.specs.FloorOf.{IsLive}
 use Rattle.ring_records.specs.FloorLists.{by_group, floored}
 use Rattle.ring_records.specs.KeyOrder.{group_cmp}
-use Rattle.ring_records.specs.KeyStates.{by_state}
+use Rattle.ring_records.specs.StateOrder.{by_state}
 use Rattle.ring_records.specs.RecordReading.{◌>>=◌, byte_at, number_at, key_at, bid_at, candidate_at}
 use Rattle.ring_records.specs.Snapshot.{has_stood}
 

@@ -39,7 +39,7 @@ ghost use Rattle.ring_records.specs.Ring.{IsLegal};
 ghost use Rattle.ring_records.specs.Part.{part};
 ghost use Rattle.ring_records.specs.Snapshot.{snapshot_of, IsSound, Spells, has_stood};
 ghost use Rattle.ring_records.specs.States.{NodeState, is_idle, opened, launched, landed, left_by};
-ghost use Rattle.ring_records.specs.Serving.{asked, launched_all};
+ghost use Rattle.ring_records.specs.Launching.{asked, launched_all};
 ghost use Rattle.ring_records.specs.Summary.{key_states, summary, empty};
 ghost use Rattle.ring_records.specs.WorkedRetire.{red, alone, retired_relay};
 ghost use Rattle.ring_records.specs.WorkedRun.{red_5, winner, first_election};

@@ -5,7 +5,7 @@ ghost use Rattle.std.specs.List.Sorted.{IsStrictlySortedBy};
 ghost use Rattle.std.specs.declared.cmp.Ordering.TheVariants.{Less};
 ghost use Rattle.ring_records.specs.FloorOf.{is_below_floor};
 ghost use Rattle.ring_records.specs.FloorLists.{by_group, floored};
-ghost use Rattle.ring_records.specs.KeyStates.{by_state};
+ghost use Rattle.ring_records.specs.StateOrder.{by_state};
 ghost use Rattle.ring_records.specs.Snapshot.{has_stood};
 ghost use Rattle.ring_records.specs.SnapshotRead.{AreFitting, IsLiveState};
 

@@ -6,7 +6,7 @@ ghost use Rattle.std.specs.List.Sorted.{IsStrictlySortedBy};
 ghost use Rattle.std.specs.declared.cmp.Ordering.TheVariants.{Less};
 ghost use Rattle.ring_records.specs.declared.summary.Summary.{Summary};
 ghost use Rattle.ring_records.specs.declared.refusal.Refusal.TheVariants.{Damaged, OutOfMemory};
-ghost use Rattle.ring_records.specs.KeyStates.{by_state};
+ghost use Rattle.ring_records.specs.StateOrder.{by_state};
 ghost use Rattle.ring_records.specs.RecordReading.{Finds, number_at, key_at};
 ghost use Rattle.ring_records.specs.Snapshot.{Spells, has_stood};
 ghost use Rattle.ring_records.specs.SnapshotRead.{candidate_in, state_behind, state_at, named_at, token_of, elected_of, msg_behind, msg_at, items_at, counts_at, some_floors_at, floors_at, parts_at, IsBroken};

@@ -1,7 +1,7 @@
 //! What a node serves with.
 ghost use Rattle.std.specs.Prelude.{◌≡◌, ◌+◌, ◌≤◌, min};
 ghost use Rattle.ring_records.specs.declared.limits.TheConstants.{DOORS};
-ghost use Rattle.commit_hub.specs.Pages.{places_of};
+ghost use Rattle.commit_hub.specs.Places.{places_of};
 
 use commit_hub::Blanks;
 use crossbeam_channel::Receiver;

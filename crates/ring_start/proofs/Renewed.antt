@@ -13,7 +13,7 @@ use Rattle.gated_journal.specs.Unread.{IsFault}
 use Rattle.group_commit.specs.Desk.{DeskKept, known_all}
 use Rattle.node_store.specs.Node.{device_of, member_of}
 use Rattle.node_store.proofs.Flight.{no_fault}
-use Rattle.node_store.specs.Recovery.{IsUnbegun}
+use Rattle.node_store.specs.Unbegun.{IsUnbegun}
 use Rattle.ring_start.specs.declared.found.Found.TheVariants as found
 use Rattle.ring_start.specs.declared.open_node.OpenNode.{OpenNode}
 use Rattle.ring_start.specs.declared.ready.Ready.{Ready}

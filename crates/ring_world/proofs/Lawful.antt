@@ -15,7 +15,8 @@ use Rattle.ring_records.specs.Lists.{EachAfter}
 use Rattle.ring_records.specs.Member.{Member, member}
 use Rattle.ring_records.specs.Summary.{summary, empty}
 use Rattle.ring_records.specs.States.{NodeState, is_idle, launched_base, left_by, opened}
-use Rattle.ring_records.specs.Serving.{gained_by, answered_by, asked}
+use Rattle.ring_records.specs.Serving.{gained_by, answered_by}
+use Rattle.ring_records.specs.Launching.{asked}
 use Rattle.std.proofs.lemmas.Option.{same_Some}
 use Rattle.ring_records.proofs.Leader.{Contains-nil}
 use Rattle.ring_records.proofs.Sound.{summary-none}

@@ -8,7 +8,8 @@ use Rattle.std.proofs.lemmas.List.Elements.{Contains-push, Contains-push_cases, 
 use Rattle.ring_records.specs.declared.request.Request.{Request}
 use Rattle.ring_records.specs.Member.{member}
 use Rattle.ring_records.specs.States.{NodeState, is_idle, opened, landed, left_by}
-use Rattle.ring_records.specs.Serving.{answered_by, asked}
+use Rattle.ring_records.specs.Serving.{answered_by}
+use Rattle.ring_records.specs.Launching.{asked}
 use Rattle.ring_records.proofs.Leader.{Contains-nil}
 use Rattle.ring_node.specs.declared.flight.Flight.{Flight}
 use Rattle.ring_node.specs.declared.flight.Flight.TheVariants.{Batch, Checkpoint}

@@ -4,7 +4,7 @@ use Rattle.ring_records.specs.declared.request.Request.{Request}
 use Rattle.ring_records.specs.declared.request.Request.TheVariants as ask
 use Rattle.ring_records.specs.Member.{member}
 use Rattle.ring_records.specs.States.{launched, landed as landed_state}
-use Rattle.ring_records.specs.Serving.{asked as asked_state}
+use Rattle.ring_records.specs.Launching.{asked as asked_state}
 use Rattle.ring_node.specs.declared.flight.Flight.TheVariants.{Batch}
 use Rattle.ring_world.specs.Events.{Submit, Launch, Land, Process}
 use Rattle.ring_world.specs.Capacity.{all_fresh}

@@ -35,7 +35,7 @@ use Rattle.ring_world.specs.Ring.{launch}
 use Rattle.ring_world.specs.Start.{IsFormatted}
 use Rattle.ring_world.specs.WorkedSchedule.{election_events, alone, crash_events, crash_run, retire_events, three_layouts, layout_events, layout_run}
 use Rattle.ring_world.specs.Events as happening
-use Rattle.ring_world.specs.Schedules as scheduled
+use Rattle.ring_world.specs.Schedules as by_room
 use Rattle.ring_world.specs.Committed as ended
 use Rattle.ring_world.proofs.Histories.{whole_histories}
 use Rattle.ring_world.proofs.Lawful.{fresh-formatted}
@@ -88,7 +88,7 @@ pub election_committed : committed all_fresh 3 65536 election_events ≡ first_e
 election_committed = made 3 65536 election_events ∙ election_durable
 
 election_each : EachAfter (MayHappen all_counted 3 65536) [] election_events
-unfolding counted all_counted happening.process EachAfter scheduled.May IsDelivered scheduled.IsReleasable Rests before after happening.act part item_at found_after first joined_after by_rule.gained input_of by_rule.reply by_rule.refusal objection shortage no_room is_touched already stale out_of_turn too_many latest term_led with_term greater_term used cost retired is_retire floor_for floor is_retired names is_named touched bid_for first_stand stood message_of taken upto_of credit is_live_stand stands is_below is_less is_key is_bid makes_leader first_leader leader passed_on emit sent
+unfolding counted all_counted happening.process EachAfter by_room.May IsDelivered by_room.IsReleasable Rests before after happening.act part item_at found_after first joined_after by_rule.gained input_of by_rule.reply by_rule.refusal objection shortage no_room is_touched already stale out_of_turn too_many latest term_led with_term greater_term used cost retired is_retire floor_for floor is_retired names is_named touched bid_for first_stand stood message_of taken upto_of credit is_live_stand stands is_below is_less is_key is_bid makes_leader first_leader leader passed_on emit sent
 election_each =
     (record { first = lit≤ tt; last = lit≤ tt; may = tt }, (record { first = lit≤ tt; last = lit≤ tt; may = refl }, (record { first = lit≤ tt; last = lit≤ tt; may = refl }, (record { first = lit≤ tt; last = lit≤ tt; may = ((0, lit< tt, refl), lit≤ tt) }, (record { first = lit≤ tt; last = lit≤ tt; may = tt }, (record { first = lit≤ tt; last = lit≤ tt; may = refl }, (record { first = lit≤ tt; last = lit≤ tt; may = refl }, (record { first = lit≤ tt; last = lit≤ tt; may = ((0, lit< tt, refl), lit≤ tt) }, (record { first = lit≤ tt; last = lit≤ tt; may = tt }, (record { first = lit≤ tt; last = lit≤ tt; may = refl }, (record { first = lit≤ tt; last = lit≤ tt; may = refl }, (record { first = lit≤ tt; last = lit≤ tt; may = ((0, lit< tt, refl), lit≤ tt) }, (record { first = lit≤ tt; last = lit≤ tt; may = record { number = 1; durable = lit≤ tt; rests = refl } }, (record { first = lit≤ tt; last = lit≤ tt; may = (12, lit< tt, refl) }, (record { first = lit≤ tt; last = lit≤ tt; may = refl }, (record { first = lit≤ tt; last = lit≤ tt; may = refl }, (record { first = lit≤ tt; last = lit≤ tt; may = ((1, lit< tt, refl), lit≤ tt) }, (record { first = lit≤ tt; last = lit≤ tt; may = record { number = 1; durable = lit≤ tt; rests = refl } }, (record { first = lit≤ tt; last = lit≤ tt; may = (17, lit< tt, refl) }, (record { first = lit≤ tt; last = lit≤ tt; may = refl }, (record { first = lit≤ tt; last = lit≤ tt; may = refl }, (record { first = lit≤ tt; last = lit≤ tt; may = ((1, lit< tt, refl), lit≤ tt) }, (record { first = lit≤ tt; last = lit≤ tt; may = record { number = 1; durable = lit≤ tt; rests = refl } }, (record { first = lit≤ tt; last = lit≤ tt; may = (22, lit< tt, refl) }, (record { first = lit≤ tt; last = lit≤ tt; may = refl }, (record { first = lit≤ tt; last = lit≤ tt; may = refl }, (record { first = lit≤ tt; last = lit≤ tt; may = ((1, lit< tt, refl), lit≤ tt) }, (record { first = lit≤ tt; last = lit≤ tt; may = record { number = 2; durable = lit≤ tt; rests = refl } }, (record { first = lit≤ tt; last = lit≤ tt; may = (27, lit< tt, refl) }, (record { first = lit≤ tt; last = lit≤ tt; may = refl }, (record { first = lit≤ tt; last = lit≤ tt; may = refl }, (record { first = lit≤ tt; last = lit≤ tt; may = ((2, lit< tt, refl), lit≤ tt) }, (record { first = lit≤ tt; last = lit≤ tt; may = record { number = 2; durable = lit≤ tt; rests = refl } }, (record { first = lit≤ tt; last = lit≤ tt; may = (32, lit< tt, refl) }, (record { first = lit≤ tt; last = lit≤ tt; may = refl }, (record { first = lit≤ tt; last = lit≤ tt; may = refl }, (record { first = lit≤ tt; last = lit≤ tt; may = ((2, lit< tt, refl), lit≤ tt) }, (record { first = lit≤ tt; last = lit≤ tt; may = record { number = 3; durable = lit≤ tt; rests = refl } }, (record { first = lit≤ tt; last = lit≤ tt; may = (37, lit< tt, refl) }, (record { first = lit≤ tt; last = lit≤ tt; may = refl }, (record { first = lit≤ tt; last = lit≤ tt; may = refl }, (record { first = lit≤ tt; last = lit≤ tt; may = ((3, lit< tt, refl), lit≤ tt) }, (record { first = lit≤ tt; last = lit≤ tt; may = record { number = 4; durable = lit≤ tt; rests = refl } }, (record { first = lit≤ tt; last = lit≤ tt; may = (42, lit< tt, refl) }, (record { first = lit≤ tt; last = lit≤ tt; may = refl }, (record { first = lit≤ tt; last = lit≤ tt; may = refl }, (record { first = lit≤ tt; last = lit≤ tt; may = ((2, lit< tt, refl), lit≤ tt) }, (record { first = lit≤ tt; last = lit≤ tt; may = record { number = 3; durable = lit≤ tt; rests = refl } }, (record { first = lit≤ tt; last = lit≤ tt; may = (47, lit< tt, refl) }, (record { first = lit≤ tt; last = lit≤ tt; may = refl }, (record { first = lit≤ tt; last = lit≤ tt; may = refl }, (record { first = lit≤ tt; last = lit≤ tt; may = ((3, lit< tt, refl), lit≤ tt) }, (record { first = lit≤ tt; last = lit≤ tt; may = record { number = 4; durable = lit≤ tt; rests = refl } }, (record { first = lit≤ tt; last = lit≤ tt; may = (52, lit< tt, refl) }, (record { first = lit≤ tt; last = lit≤ tt; may = refl }, (record { first = lit≤ tt; last = lit≤ tt; may = refl }, (record { first = lit≤ tt; last = lit≤ tt; may = ((4, lit< tt, refl), lit≤ tt) }, (record { first = lit≤ tt; last = lit≤ tt; may = tt }, (record { first = lit≤ tt; last = lit≤ tt; may = ((4, lit< tt, refl), lit≤ tt) }, (record { first = lit≤ tt; last = lit≤ tt; may = tt }, (record { first = lit≤ tt; last = lit≤ tt; may = ((5, lit< tt, refl), lit≤ tt) }, (record { first = lit≤ tt; last = lit≤ tt; may = tt }, (record { first = lit≤ tt; last = lit≤ tt; may = ((3, lit< tt, refl), lit≤ tt) }, (record { first = lit≤ tt; last = lit≤ tt; may = record { number = 3; durable = lit≤ tt; rests = refl } }, tt))))))))))))))))))))))))))))))))))))))))))))))))))))))))))))))))
 
@@ -109,7 +109,7 @@ pub crash_committed : (flight : Flight) → committed all_fresh 2 4096 (crash_ev
 crash_committed flight = made 2 4096 (crash_events (launch flight)) ∙ crash_durable flight
 
 crash_each : (flight : Flight) → EachAfter (MayHappen all_counted 2 4096) [] (crash_events (launch flight))
-unfolding counted all_counted happening.process EachAfter scheduled.May IsDelivered scheduled.IsReleasable Rests before after happening.act part item_at found_after first joined_after by_rule.gained input_of by_rule.reply by_rule.refusal objection shortage no_room is_touched already stale out_of_turn too_many latest term_led with_term greater_term used cost retired is_retire floor_for floor is_retired names is_named touched bid_for first_stand stood message_of taken upto_of credit is_live_stand stands is_below is_less is_key is_bid makes_leader first_leader leader passed_on emit sent
+unfolding counted all_counted happening.process EachAfter by_room.May IsDelivered by_room.IsReleasable Rests before after happening.act part item_at found_after first joined_after by_rule.gained input_of by_rule.reply by_rule.refusal objection shortage no_room is_touched already stale out_of_turn too_many latest term_led with_term greater_term used cost retired is_retire floor_for floor is_retired names is_named touched bid_for first_stand stood message_of taken upto_of credit is_live_stand stands is_below is_less is_key is_bid makes_leader first_leader leader passed_on emit sent
 crash_each Batch = (record { first = lit≤ tt; last = lit≤ tt; may = tt }, (record { first = lit≤ tt; last = lit≤ tt; may = refl }, (record { first = lit≤ tt; last = lit≤ tt; may = refl }, (record { first = lit≤ tt; last = lit≤ tt; may = ((0, lit< tt, refl), lit≤ tt) }, (record { first = lit≤ tt; last = lit≤ tt; may = record { number = 1; durable = lit≤ tt; rests = refl } }, (record { first = lit≤ tt; last = lit≤ tt; may = (4, lit< tt, refl) }, (record { first = lit≤ tt; last = lit≤ tt; may = refl }, (record { first = lit≤ tt; last = lit≤ tt; may = tt }, (record { first = lit≤ tt; last = lit≤ tt; may = (4, lit< tt, refl) }, (record { first = lit≤ tt; last = lit≤ tt; may = refl }, (record { first = lit≤ tt; last = lit≤ tt; may = tt }, (record { first = lit≤ tt; last = lit≤ tt; may = record { number = 1; durable = lit≤ tt; rests = refl } }, (record { first = lit≤ tt; last = lit≤ tt; may = (11, lit< tt, refl) }, (record { first = lit≤ tt; last = lit≤ tt; may = refl }, (record { first = lit≤ tt; last = lit≤ tt; may = refl }, (record { first = lit≤ tt; last = lit≤ tt; may = ((1, lit< tt, refl), lit≤ tt) }, (record { first = lit≤ tt; last = lit≤ tt; may = tt }, (record { first = lit≤ tt; last = lit≤ tt; may = ((2, lit< tt, refl), lit≤ tt) }, tt))))))))))))))))))
 crash_each Checkpoint = (record { first = lit≤ tt; last = lit≤ tt; may = tt }, (record { first = lit≤ tt; last = lit≤ tt; may = refl }, (record { first = lit≤ tt; last = lit≤ tt; may = refl }, (record { first = lit≤ tt; last = lit≤ tt; may = ((0, lit< tt, refl), lit≤ tt) }, (record { first = lit≤ tt; last = lit≤ tt; may = record { number = 1; durable = lit≤ tt; rests = refl } }, (record { first = lit≤ tt; last = lit≤ tt; may = (4, lit< tt, refl) }, (record { first = lit≤ tt; last = lit≤ tt; may = (refl, record { least = lit≤ tt; most = lit≤ tt }) }, (record { first = lit≤ tt; last = lit≤ tt; may = tt }, (record { first = lit≤ tt; last = lit≤ tt; may = (4, lit< tt, refl) }, (record { first = lit≤ tt; last = lit≤ tt; may = (refl, record { least = lit≤ tt; most = lit≤ tt }) }, (record { first = lit≤ tt; last = lit≤ tt; may = tt }, (record { first = lit≤ tt; last = lit≤ tt; may = record { number = 1; durable = lit≤ tt; rests = refl } }, (record { first = lit≤ tt; last = lit≤ tt; may = (11, lit< tt, refl) }, (record { first = lit≤ tt; last = lit≤ tt; may = refl }, (record { first = lit≤ tt; last = lit≤ tt; may = refl }, (record { first = lit≤ tt; last = lit≤ tt; may = ((1, lit< tt, refl), lit≤ tt) }, (record { first = lit≤ tt; last = lit≤ tt; may = tt }, (record { first = lit≤ tt; last = lit≤ tt; may = ((2, lit< tt, refl), lit≤ tt) }, tt))))))))))))))))))
 
@@ -129,7 +129,7 @@ pub retire_committed : committed all_fresh 2 4096 retire_events ≡ retired_rela
 retire_committed = made 2 4096 retire_events ∙ retire_durable
 
 retire_each : EachAfter (MayHappen all_counted 2 4096) [] retire_events
-unfolding counted all_counted happening.process EachAfter scheduled.May IsDelivered scheduled.IsReleasable Rests before after happening.act part item_at found_after first joined_after by_rule.gained input_of by_rule.reply by_rule.refusal objection shortage no_room is_touched already stale out_of_turn too_many latest term_led with_term greater_term used cost retired is_retire floor_for floor is_retired names is_named touched bid_for first_stand stood message_of taken upto_of credit is_live_stand stands is_below is_less is_key is_bid makes_leader first_leader leader passed_on emit sent
+unfolding counted all_counted happening.process EachAfter by_room.May IsDelivered by_room.IsReleasable Rests before after happening.act part item_at found_after first joined_after by_rule.gained input_of by_rule.reply by_rule.refusal objection shortage no_room is_touched already stale out_of_turn too_many latest term_led with_term greater_term used cost retired is_retire floor_for floor is_retired names is_named touched bid_for first_stand stood message_of taken upto_of credit is_live_stand stands is_below is_less is_key is_bid makes_leader first_leader leader passed_on emit sent
 retire_each = (record { first = lit≤ tt; last = lit≤ tt; may = tt }, (record { first = lit≤ tt; last = lit≤ tt; may = refl }, (record { first = lit≤ tt; last = lit≤ tt; may = refl }, (record { first = lit≤ tt; last = lit≤ tt; may = ((0, lit< tt, refl), lit≤ tt) }, (record { first = lit≤ tt; last = lit≤ tt; may = record { number = 1; durable = lit≤ tt; rests = refl } }, (record { first = lit≤ tt; last = lit≤ tt; may = (4, lit< tt, refl) }, (record { first = lit≤ tt; last = lit≤ tt; may = refl }, (record { first = lit≤ tt; last = lit≤ tt; may = refl }, (record { first = lit≤ tt; last = lit≤ tt; may = ((0, lit< tt, refl), lit≤ tt) }, (record { first = lit≤ tt; last = lit≤ tt; may = record { number = 1; durable = lit≤ tt; rests = refl } }, (record { first = lit≤ tt; last = lit≤ tt; may = (9, lit< tt, refl) }, (record { first = lit≤ tt; last = lit≤ tt; may = refl }, (record { first = lit≤ tt; last = lit≤ tt; may = refl }, (record { first = lit≤ tt; last = lit≤ tt; may = ((1, lit< tt, refl), lit≤ tt) }, (record { first = lit≤ tt; last = lit≤ tt; may = tt }, (record { first = lit≤ tt; last = lit≤ tt; may = refl }, (record { first = lit≤ tt; last = lit≤ tt; may = refl }, (record { first = lit≤ tt; last = lit≤ tt; may = ((2, lit< tt, refl), lit≤ tt) }, (record { first = lit≤ tt; last = lit≤ tt; may = tt }, (record { first = lit≤ tt; last = lit≤ tt; may = refl }, (record { first = lit≤ tt; last = lit≤ tt; may = refl }, (record { first = lit≤ tt; last = lit≤ tt; may = ((1, lit< tt, refl), lit≤ tt) }, (record { first = lit≤ tt; last = lit≤ tt; may = record { number = 2; durable = lit≤ tt; rests = refl } }, (record { first = lit≤ tt; last = lit≤ tt; may = (22, lit< tt, refl) }, (record { first = lit≤ tt; last = lit≤ tt; may = refl }, (record { first = lit≤ tt; last = lit≤ tt; may = refl }, (record { first = lit≤ tt; last = lit≤ tt; may = ((3, lit< tt, refl), lit≤ tt) }, (record { first = lit≤ tt; last = lit≤ tt; may = tt }, (record { first = lit≤ tt; last = lit≤ tt; may = ((4, lit< tt, refl), lit≤ tt) }, (record { first = lit≤ tt; last = lit≤ tt; may = tt }, (record { first = lit≤ tt; last = lit≤ tt; may = ((5, lit< tt, refl), lit≤ tt) }, tt)))))))))))))))))))))))))))))))
 
 pub retire_schedule : IsSchedule all_fresh 2 4096 retire_events
@@ -145,7 +145,7 @@ unfolding happening.process ended.committed committed_by made_durable before aft
 layout_committed = refl
 
 layout_each : EachAfter (MayHappen three_layouts 3 4096) [] layout_events
-unfolding happening.process EachAfter scheduled.May IsDelivered scheduled.IsReleasable Rests before after happening.act part item_at found_after first joined_after by_rule.gained input_of by_rule.reply by_rule.refusal objection shortage no_room is_touched already stale out_of_turn too_many latest term_led with_term greater_term used cost retired is_retire floor_for floor is_retired names is_named touched bid_for first_stand stood message_of taken upto_of credit is_live_stand stands is_below is_less is_key is_bid makes_leader first_leader leader passed_on emit sent
+unfolding happening.process EachAfter by_room.May IsDelivered by_room.IsReleasable Rests before after happening.act part item_at found_after first joined_after by_rule.gained input_of by_rule.reply by_rule.refusal objection shortage no_room is_touched already stale out_of_turn too_many latest term_led with_term greater_term used cost retired is_retire floor_for floor is_retired names is_named touched bid_for first_stand stood message_of taken upto_of credit is_live_stand stands is_below is_less is_key is_bid makes_leader first_leader leader passed_on emit sent
 layout_each = (record { first = lit≤ tt; last = lit≤ tt; may = tt }, (record { first = lit≤ tt; last = lit≤ tt; may = refl }, (record { first = lit≤ tt; last = lit≤ tt; may = refl }, (record { first = lit≤ tt; last = lit≤ tt; may = ((0, lit< tt, refl), lit≤ tt) }, (record { first = lit≤ tt; last = lit≤ tt; may = record { number = 1; durable = lit≤ tt; rests = refl } }, (record { first = lit≤ tt; last = lit≤ tt; may = (4, lit< tt, refl) }, (record { first = lit≤ tt; last = lit≤ tt; may = refl }, (record { first = lit≤ tt; last = lit≤ tt; may = refl }, (record { first = lit≤ tt; last = lit≤ tt; may = ((0, lit< tt, refl), lit≤ tt) }, (record { first = lit≤ tt; last = lit≤ tt; may = record { number = 1; durable = lit≤ tt; rests = refl } }, (record { first = lit≤ tt; last = lit≤ tt; may = (9, lit< tt, refl) }, (record { first = lit≤ tt; last = lit≤ tt; may = refl }, (record { first = lit≤ tt; last = lit≤ tt; may = refl }, (record { first = lit≤ tt; last = lit≤ tt; may = ((0, lit< tt, refl), lit≤ tt) }, (record { first = lit≤ tt; last = lit≤ tt; may = record { number = 1; durable = lit≤ tt; rests = refl } }, (record { first = lit≤ tt; last = lit≤ tt; may = (14, lit< tt, refl) }, (record { first = lit≤ tt; last = lit≤ tt; may = refl }, (record { first = lit≤ tt; last = lit≤ tt; may = refl }, (record { first = lit≤ tt; last = lit≤ tt; may = ((1, lit< tt, refl), lit≤ tt) }, (record { first = lit≤ tt; last = lit≤ tt; may = record { number = 2; durable = lit≤ tt; rests = refl } }, (record { first = lit≤ tt; last = lit≤ tt; may = (19, lit< tt, refl) }, (record { first = lit≤ tt; last = lit≤ tt; may = refl }, (record { first = lit≤ tt; last = lit≤ tt; may = refl }, (record { first = lit≤ tt; last = lit≤ tt; may = ((1, lit< tt, refl), lit≤ tt) }, (record { first = lit≤ tt; last = lit≤ tt; may = record { number = 2; durable = lit≤ tt; rests = refl } }, (record { first = lit≤ tt; last = lit≤ tt; may = (24, lit< tt, refl) }, (record { first = lit≤ tt; last = lit≤ tt; may = refl }, (record { first = lit≤ tt; last = lit≤ tt; may = refl }, (record { first = lit≤ tt; last = lit≤ tt; may = ((1, lit< tt, refl), lit≤ tt) }, (record { first = lit≤ tt; last = lit≤ tt; may = record { number = 2; durable = lit≤ tt; rests = refl } }, (record { first = lit≤ tt; last = lit≤ tt; may = (29, lit< tt, refl) }, (record { first = lit≤ tt; last = lit≤ tt; may = (refl, record { least = lit≤ tt; most = lit≤ tt }) }, (record { first = lit≤ tt; last = lit≤ tt; may = tt }, (record { first = lit≤ tt; last = lit≤ tt; may = (29, lit< tt, refl) }, (record { first = lit≤ tt; last = lit≤ tt; may = (refl, record { least = lit≤ tt; most = lit≤ tt }) }, (record { first = lit≤ tt; last = lit≤ tt; may = tt }, (record { first = lit≤ tt; last = lit≤ tt; may = (refl, record { least = lit≤ tt; most = lit≤ tt }) }, (record { first = lit≤ tt; last = lit≤ tt; may = tt }, (record { first = lit≤ tt; last = lit≤ tt; may = tt }, (record { first = lit≤ tt; last = lit≤ tt; may = ((0, lit< tt, refl), lit≤ tt) }, (record { first = lit≤ tt; last = lit≤ tt; may = tt }, (record { first = lit≤ tt; last = lit≤ tt; may = ((2, lit< tt, refl), lit≤ tt) }, (record { first = lit≤ tt; last = lit≤ tt; may = tt }, (record { first = lit≤ tt; last = lit≤ tt; may = ((2, lit< tt, refl), lit≤ tt) }, tt))))))))))))))))))))))))))))))))))))))))))))
 
 pub layout_schedule : IsSchedule three_layouts 3 4096 layout_events

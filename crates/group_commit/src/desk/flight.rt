@@ -4,7 +4,7 @@ ghost use Rattle.ring_records.specs.declared.input.Input.{Input};
 ghost use Rattle.ring_records.specs.Admission.{epochs, used, newest};
 ghost use Rattle.ring_records.specs.Release.{packets, notices};
 ghost use Rattle.ring_records.specs.Snapshot.{IsSound, snapshot_len};
-ghost use Rattle.ring_records.specs.Serving as serving;
+ghost use Rattle.ring_records.specs.Launching as launching;
 ghost use Rattle.ring_records.specs.States.{launched_base, durable_in, flown_in, flying_in};
 ghost use Rattle.ring_records.specs.Summary.{summary};
 ghost use Rattle.node_core.specs.Core.{IsNodeOf};
@@ -71,7 +71,7 @@ impl Desk {
         ensures epoch { OnOk result (self.old.view.state.base.epoch + 1 < epochs) }
         ensures next { OnOk result (self.new ≡ record self.old { view = launched_all self.old }) }
         ensures lifted { OnOk result ((past : List Input) → IsPast self.old.view.member self.old.opening past
-            → seen past self.new ≡ record (seen past self.old) { state = serving.launched_all self.old.view.member.node (seen past self.old).state }) }
+            → seen past self.new ≡ record (seen past self.old) { state = launching.launched_all self.old.view.member.node (seen past self.old).state }) }
         ensures free { OnOk result (checkpoint_objection self.old ≡ None) }
         ensures refusal { IfErr result (λ refusal. (checkpoint_objection self.old ≡ Some refusal) ⊎ ((checkpoint_objection self.old ≡ None) × (refusal ≡ Refusal.OutOfMemory))) }
         ensures same { OnErr result (self.new ≡ self.old) }

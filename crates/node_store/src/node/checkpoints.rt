@@ -4,7 +4,7 @@ ghost use Rattle.disk_model.specs.Disk.{LeavesOnly, Reaches};
 ghost use Rattle.ring_records.specs.declared.input.Input.{Input};
 ghost use Rattle.ring_records.specs.Admission.{newest};
 ghost use Rattle.ring_records.specs.Release.{packets, notices};
-ghost use Rattle.ring_records.specs.Serving as serving;
+ghost use Rattle.ring_records.specs.Launching as launching;
 ghost use Rattle.ring_records.specs.States.{durable_in, flying_in};
 ghost use Rattle.gated_journal.specs.Areas.{AllReadAs};
 ghost use Rattle.gated_journal.specs.Reading.{device_size, fresh_area};
@@ -12,7 +12,7 @@ ghost use Rattle.gated_journal.specs.Unread.{IsFault};
 ghost use Rattle.group_commit.specs.Desk.{known_all, seen, landed};
 ghost use Rattle.group_commit.specs.Launching.{launched_all, checkpoint_objection};
 ghost use Rattle.group_commit.specs.Past.{IsPast};
-ghost use Rattle.node_store.specs.Recovery.{IsUnbegun};
+ghost use Rattle.node_store.specs.Unbegun.{IsUnbegun};
 ghost use Rattle.node_store.specs.State.{MayBeLeft};
 
 use crate::node::Node;
@@ -33,9 +33,9 @@ impl<D: Device> Node<D> {
         ensures next { OnOk result (desk_of self.new ≡ record (desk_of self.old) { view = landed (launched_all (desk_of self.old)) }) }
         ensures count { IfOk result (λ l. l.count ≡ length (state_of self.old).inputs - (state_of self.old).durable) }
         ensures packets { IfOk result (λ l. (past : List Input) → IsPast (member_of self.old) (desk_of self.old).opening past → l.packets.items
-            ≡ packets (member_of self.old).node (durable_in (seen past (desk_of self.old)).state) (flying_in (serving.launched_all (member_of self.old).node (seen past (desk_of self.old)).state))) }
+            ≡ packets (member_of self.old).node (durable_in (seen past (desk_of self.old)).state) (flying_in (launching.launched_all (member_of self.old).node (seen past (desk_of self.old)).state))) }
         ensures notices { IfOk result (λ l. (past : List Input) → IsPast (member_of self.old) (desk_of self.old).opening past → l.notices.items
-            ≡ notices (member_of self.old).node (durable_in (seen past (desk_of self.old)).state) (flying_in (serving.launched_all (member_of self.old).node (seen past (desk_of self.old)).state))) }
+            ≡ notices (member_of self.old).node (durable_in (seen past (desk_of self.old)).state) (flying_in (launching.launched_all (member_of self.old).node (seen past (desk_of self.old)).state))) }
         ensures durable { OnOk result (AllReadAs (member_of self.old) (D.disk (device_of self.new)) (fresh_area newest ((state_of self.old).base.epoch + 1) (known_all (desk_of self.old)))) }
         ensures free { OnOk result (checkpoint_objection (desk_of self.old) ≡ None) }
 

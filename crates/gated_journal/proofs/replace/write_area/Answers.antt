@@ -1,5 +1,6 @@
 use Rattle.std.proofs.Common.{◌≡◌, ◌+◌, ℕ, List, Bool, true, [], ◌∷◌, ◌++◌, length, sym, ◌∙◌, ap, subst}
-use Rattle.disk_model.specs.Disk.{Disk, IsSynced, IsTorn}
+use Rattle.disk_model.specs.Disk.{Disk, IsTorn}
+use Rattle.disk_model.specs.Synced.{IsSynced}
 use Rattle.disk_model.specs.Calls.{Changes, Puts}
 use Rattle.disk_model.proofs.Changed.{torn_changes, puts_changes}
 use Rattle.disk_model.proofs.Moments.{weaken, joins}

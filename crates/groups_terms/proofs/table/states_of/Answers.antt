@@ -1,6 +1,7 @@
 use Rattle.std.proofs.Common.{sym, ap, ◌∙◌, subst}
 use Rattle.std.specs.List.Sorted.{IsStrictlySortedBy}
-use Rattle.ring_records.specs.KeyStates.{by_state, keyed}
+use Rattle.ring_records.specs.KeyStates.{keyed}
+use Rattle.ring_records.specs.StateOrder.{by_state}
 use Rattle.groups_terms.proofs.States.{sorted_states, all_told}
 use Rattle.groups_terms.proofs.table.states_of.Goals as goal
 

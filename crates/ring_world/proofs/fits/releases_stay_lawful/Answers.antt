@@ -1,4 +1,4 @@
-use Rattle.ring_world.proofs.Processes.{base-formatted, lawful-formatted, lawful-launched_in, fresh-formatted}
+use Rattle.ring_world.proofs.Lawful.{base-formatted, lawful-formatted, lawful-launched_in, fresh-formatted}
 use Rattle.ring_world.proofs.fits.releases_stay_lawful.Goals as goal
 
 pub returns-clause-new : goal.returns-clause-new

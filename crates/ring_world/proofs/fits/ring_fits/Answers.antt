@@ -1,4 +1,4 @@
-use Rattle.ring_world.proofs.Promises.{ring_fits}
+use Rattle.ring_world.proofs.Corollaries.{ring_fits}
 use Rattle.ring_world.proofs.fits.ring_fits.Goals as goal
 
 pub returns : goal.returns

@@ -1,5 +1,5 @@
 use Rattle.std.proofs.Common.{◌≤◌, ℕ, List, length, ap, ◌∙◌, arith, length-take}
-use Rattle.disk_model.specs.Disk.{with_image}
+use Rattle.disk_model.specs.Synced.{with_image}
 use Rattle.disk_model.specs.Buffer.{disk_of}
 use Rattle.disk_model.specs.Old.{old_byte}
 use Rattle.disk_model.proofs.Images.{before_at, taken_back}

@@ -4,7 +4,7 @@ use Rattle.ring_records.specs.Admission.{newest}
 use Rattle.ring_records.specs.declared.input.Input.{Input}
 use Rattle.ring_records.specs.Known.{after}
 use Rattle.ring_records.specs.Snapshot.{IsSound, snapshot_len}
-use Rattle.ring_records.specs.Serving as serving
+use Rattle.ring_records.specs.Launching as launching
 use Rattle.ring_records.specs.Summary.{summary}
 use Rattle.ring_records.proofs.States.{idle-none}
 use Rattle.gated_journal.specs.Batch.{base_by}
@@ -107,5 +107,5 @@ returns-in-Ok-summarise-clause-lifted c =
     let all : c.self.inside.inputs.count ≡ length d.inputs.all.list = search rules in
     let spells : c.summary_len-length.result ≡ snapshot_len newest (after d.node d.base d.inputs.all.list) = c.summary_len-length.ensures ∙ ap (λ (v : CoreView). snapshot_len newest v.known) i.knows in
     subst (λ (v : DeskKept). (past : List Input) → IsPast v.view.member v.opening past
-    → seen past (next_by a c.stand_for.new.self.all.list c.self.inside.inputs.count c.summary_len-length.result) ≡ record (seen past v) { state = serving.launched_all v.view.member.node (seen past v).state }) c.self.view_is
+    → seen past (next_by a c.stand_for.new.self.all.list c.self.inside.inputs.count c.summary_len-length.result) ≡ record (seen past v) { state = launching.launched_all v.view.member.node (seen past v).state }) c.self.view_is
     (λ past is. (λ k. seen past (next_by a (sym (list_is c.stand_for.new.self.all d.inputs.all c.stand_for.ensures.all) k) (all k) (spells k))) ∙ launched_all_seen past (shown_by a) is (core_past (member_in d) d.base past (state_in d) is i.state).knows)

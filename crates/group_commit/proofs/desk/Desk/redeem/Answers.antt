@@ -6,7 +6,7 @@ use Rattle.group_commit.specs.Desk.{DeskKept, IsAnswer}
 use Rattle.group_commit.specs.Past.{IsPast}
 use Rattle.ring_records.specs.declared.input.Input.{Input}
 use Rattle.group_commit.specs.Kept.{AreBelow, AreAnswers}
-use Rattle.group_commit.specs.Ticket.{answered_with}
+use Rattle.group_commit.specs.DeskCalls.{answered_with}
 use Rattle.group_commit.proofs.Inside.{member_in, state_in}
 use Rattle.group_commit.proofs.Numbers.{below_without}
 use Rattle.group_commit.proofs.Replies.{answer_durable, answers_without, answers_at}

@@ -15,7 +15,8 @@ use Rattle.group_commit.specs.Outbox.{Holds}
 use Rattle.group_commit.specs.Past.{IsPast}
 use Rattle.group_commit.specs.Since.{IsKnownState}
 use Rattle.group_commit.specs.CoreOf.{core_in}
-use Rattle.group_commit.specs.Ticket.{answered_with, ticket_with}
+use Rattle.group_commit.specs.Ticket.{ticket_with}
+use Rattle.group_commit.specs.DeskCalls.{answered_with}
 use Rattle.group_commit.proofs.Inside.{member_in, area_in, state_in}
 use Rattle.group_commit.proofs.KeptInputs.{counted, kept_more}
 use Rattle.group_commit.proofs.Landing.{waits_more}

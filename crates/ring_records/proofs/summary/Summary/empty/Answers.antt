@@ -3,7 +3,7 @@ use Rattle.std.specs.List.Sorted.{IsStrictlySortedBy}
 use Rattle.ring_records.specs.declared.key.Key.{Key}
 use Rattle.ring_records.specs.declared.key_state.KeyState.{KeyState}
 use Rattle.ring_records.specs.FloorLists.{by_group}
-use Rattle.ring_records.specs.KeyStates.{by_state}
+use Rattle.ring_records.specs.StateOrder.{by_state}
 use Rattle.ring_records.proofs.summary.Summary.empty.Goals as goal
 
 pub from_sorted-requires : goal.from_sorted-requires

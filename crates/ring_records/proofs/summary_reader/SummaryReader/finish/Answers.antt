@@ -3,7 +3,8 @@ use Rattle.std.specs.List.Sorted.{IsStrictlySortedBy}
 use Rattle.ring_records.specs.declared.snapshot_read.Counts.{Counts}
 use Rattle.ring_records.specs.Snapshot.{Spells}
 use Rattle.ring_records.specs.FloorLists.{by_group, floored}
-use Rattle.ring_records.specs.KeyStates.{by_state, keyed}
+use Rattle.ring_records.specs.KeyStates.{keyed}
+use Rattle.ring_records.specs.StateOrder.{by_state}
 use Rattle.ring_records.specs.SnapshotPart.{SnapshotPart, Parts, shown, taken_of}
 use Rattle.ring_records.specs.Summary.{empty}
 use Rattle.ring_records.proofs.SnapshotParts.{nothing_read, plain_read, reading_none, reading_some, sound_yes, sound_no}
