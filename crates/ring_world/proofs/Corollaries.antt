@@ -19,7 +19,7 @@ use Rattle.ring_world.specs.Based.{Rests, IsKept}
 use Rattle.ring_world.specs.Capacity.{within, process, state_after, committed}
 use Rattle.ring_world.specs.Events.{Thing, Replied, Sent, Shown, Action, Release}
 use Rattle.ring_world.specs.Released.{IsAnnounced}
-use Rattle.ring_world.specs.Schedule.{IsSchedule}
+use Rattle.ring_world.specs.CapacitySchedule.{IsSchedule}
 use Rattle.ring_world.specs.Acts.{IsReleasable, MayHappen}
 use Rattle.ring_world.specs.Schedules as lawful
 use Rattle.ring_world.proofs.Chain.{IsShown, shown_by, agree}

@@ -25,7 +25,7 @@ use Rattle.ring_records.proofs.Lists.{along, none≢some}
 use Rattle.ring_records.proofs.States.{lawful-first}
 use Rattle.ring_world.specs.Capacity.{committed, state_after}
 use Rattle.ring_world.specs.Events.{Action}
-use Rattle.ring_world.specs.Schedule.{IsSchedule}
+use Rattle.ring_world.specs.CapacitySchedule.{IsSchedule}
 use Rattle.ring_world.proofs.Served.{schedule_holds}
 
 -- ---- the last credit and the last message

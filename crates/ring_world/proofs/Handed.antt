@@ -19,7 +19,7 @@ use Rattle.ring_records.specs.States.{durable_in}
 use Rattle.ring_records.proofs.Keys.{is_key-true, is_key-same}
 use Rattle.ring_world.specs.Events.{Sent, Action, Release, Process}
 use Rattle.ring_world.specs.Capacity.{process, all_fresh}
-use Rattle.ring_world.specs.Schedule.{IsSchedule}
+use Rattle.ring_world.specs.CapacitySchedule.{IsSchedule}
 use Rattle.ring_world.specs.Acts.{IsReleasable}
 use Rattle.ring_world.specs.Schedules.{Rests, IsDelivered}
 use Rattle.ring_world.specs.Schedules as scheduled

@@ -15,7 +15,7 @@ use Rattle.ring_audit.specs.Audits.{HasShape}
 use Rattle.ring_audit.specs.Placement.{history_of, IsWhole}
 use Rattle.ring_world.specs.Capacity.{committed, process, state_after, all_fresh}
 use Rattle.ring_world.specs.Events.{Action}
-use Rattle.ring_world.specs.Schedule.{IsSchedule}
+use Rattle.ring_world.specs.CapacitySchedule.{IsSchedule}
 use Rattle.ring_world.specs.Dropped.{dropped_at, first_dropped, withheld}
 use Rattle.ring_world.specs.Histories.{histories}
 use Rattle.ring_world.specs.State.{State}

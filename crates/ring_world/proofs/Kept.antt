@@ -10,7 +10,7 @@ use Rattle.ring_records.specs.Place.{before}
 use Rattle.ring_node.specs.declared.flight.Flight.{Flight}
 use Rattle.ring_node.specs.declared.flight.Flight.TheVariants as flights
 use Rattle.ring_world.specs.Counts.{IsBounded}
-use Rattle.ring_world.specs.Schedule.{IsSchedule}
+use Rattle.ring_world.specs.CapacitySchedule.{IsSchedule}
 use Rattle.ring_world.specs.Rest.{IsAllDurable}
 use Rattle.ring_world.specs.Ring.{RingView, node_at, is_launched, carried, round, brought, crashed, stopped, swept}
 use Rattle.ring_world.specs.Left.{IsSameRing, IsLeft}

@@ -12,7 +12,7 @@ use Rattle.ring_node.specs.Open.{Open}
 use Rattle.ring_world.specs.Events.{Thing, Replied, Action, Land, Release, Crash, Process, started}
 use Rattle.ring_world.specs.Capacity.{process, all_fresh}
 use Rattle.ring_world.specs.Acts.{act, IsReleasable, May, MayHappen}
-use Rattle.ring_world.specs.Schedule.{IsSchedule}
+use Rattle.ring_world.specs.CapacitySchedule.{IsSchedule}
 use Rattle.ring_world.specs.Ring.{launch, release_of}
 use Rattle.ring_world.specs.Events as happening
 use Rattle.ring_world.specs.Schedules as scheduled

@@ -12,7 +12,7 @@ use Rattle.ring_world.specs.Capacity.{within, process, state_after, committed}
 use Rattle.ring_world.specs.Acts.{act, MayHappen}
 use Rattle.ring_world.specs.Events.{Sent, Action, Release, Process}
 use Rattle.ring_world.specs.Events as happening
-use Rattle.ring_world.specs.Schedule.{IsSchedule}
+use Rattle.ring_world.specs.CapacitySchedule.{IsSchedule}
 use Rattle.ring_world.specs.Start.{IsFormatted}
 use Rattle.ring_world.proofs.Lawful.{Sound, sound-new, sound-next}
 use Rattle.ring_world.proofs.Schedules as scheduled

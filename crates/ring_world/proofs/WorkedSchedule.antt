@@ -27,7 +27,7 @@ use Rattle.ring_world.specs.Committed.{made_durable, committed_by}
 use Rattle.ring_world.specs.Capacity.{committed, process, state_after, all_fresh}
 use Rattle.ring_world.specs.Acts.{act, IsReleasable, May, MayHappen}
 use Rattle.ring_world.specs.Events.{Action, Replied, Shown}
-use Rattle.ring_world.specs.Schedule.{IsSchedule}
+use Rattle.ring_world.specs.CapacitySchedule.{IsSchedule}
 use Rattle.ring_world.specs.Schedules.{Rests, IsDelivered}
 use Rattle.ring_world.specs.Histories.{histories}
 use Rattle.ring_world.specs.Released.{named_by, named, IsAnnounced}

@@ -43,13 +43,13 @@ pub record Process : Type 0 where
 abbrev pub started : NodeState → Process
 started state = record { state = state; kept = []; dropped = state.base.inputs }
 
--- A rule of room for all nodes. It says what room a node has by what an area stands for; and what an area of a checkpoint stands
--- for, by its layout, its node, what the area before it stands for, and the inputs that it summarises.
+-- A rule of room for all nodes: what room says at a node, counted from what an area stands for; and what the area of a
+-- checkpoint stands for, by its layout, the node, what the area before it stands for, and all inputs of the node.
 pub record RoomRule : Type 0 where
   pub says : ℕ → Base → Rule
   pub stands : ℕ → ℕ → Base → List Input → Base
 
--- by the area that is in use once all that flies is durable
+-- what room says in this state: it is counted from the area that is in use once all that flies is durable
 abbrev pub rule_of : RoomRule → ℕ → NodeState → Rule
 rule_of room me s = room.says me (launched_base s)
 

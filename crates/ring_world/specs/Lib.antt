@@ -3,6 +3,7 @@ pub mod Agreement
 pub mod Announced
 pub mod Based
 pub mod Capacity
+pub mod CapacitySchedule
 pub mod Committed
 pub mod Counts
 pub mod Dropped
@@ -13,7 +14,6 @@ pub mod Left
 pub mod Released
 pub mod Rest
 pub mod Ring
-pub mod Schedule
 pub mod Schedules
 pub mod Shows
 pub mod Stage

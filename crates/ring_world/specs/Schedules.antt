@@ -14,7 +14,7 @@ use Rattle.ring_records.specs.Place.{before, after}
 use Rattle.ring_records.specs.States.{NodeState, is_idle}
 use Rattle.ring_world.specs.Events.{Thing, Replied, Sent, Shown, Action, Submit, Launch, LaunchAll, Land, Release, Crash, Process, RoomRule, process}
 
--- At some point of h the answer was given, with room counted from what some area may stand for.
+-- At some point of h the answer was given, by what room said there, counted from some base.
 pub record WasAnswered (me n : ℕ) (room : RoomRule) (h : List Input) (a : Answered) : Type 0 where
   pub base : Base
   pub answers : Answers me n (room.says me base) h a.question a.answer

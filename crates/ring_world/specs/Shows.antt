@@ -6,7 +6,7 @@ use Rattle.ring_node.specs.Node.{NodeView, new_node, state_of}
 use Rattle.ring_node.specs.Open.{Open, due, sealed}
 use Rattle.ring_world.specs.Events.{Action}
 use Rattle.ring_world.specs.Capacity.{process, state_after, all_fresh}
-use Rattle.ring_world.specs.Schedule.{IsSchedule}
+use Rattle.ring_world.specs.CapacitySchedule.{IsSchedule}
 
 -- the open tickets of a node
 abbrev pub held_of : NodeView → List Open

@@ -3,7 +3,7 @@ use Rattle.std.specs.Prelude.{ℕ, ◌≡◌, ◌≤◌, Bool, true, nat_le, ◌
 use Rattle.ring_records.specs.declared.limits.TheConstants.{GREATEST_CAPACITY, LEAST_CAPACITY}
 use Rattle.ring_node.specs.Open.{Open}
 use Rattle.ring_world.specs.Counts.{IsCounted}
-use Rattle.ring_world.specs.Schedule.{IsSchedule}
+use Rattle.ring_world.specs.CapacitySchedule.{IsSchedule}
 use Rattle.ring_world.specs.Rest.{IsAtRest}
 use Rattle.ring_world.specs.Capacity.{all_fresh}
 use Rattle.ring_world.specs.declared.log.Log.{Log}

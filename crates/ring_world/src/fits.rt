@@ -15,7 +15,7 @@ ghost use Rattle.ring_audit.specs.Placement.{IsWhole};
 ghost use Rattle.ring_world.specs.Capacity.{committed, state_after};
 ghost use Rattle.ring_world.specs.Acts.{launched_in};
 ghost use Rattle.ring_world.specs.Events.{Action};
-ghost use Rattle.ring_world.specs.Schedule.{IsSchedule};
+ghost use Rattle.ring_world.specs.CapacitySchedule.{IsSchedule};
 ghost use Rattle.ring_world.specs.Histories.{histories};
 ghost use Rattle.ring_world.specs.Start.{first_epoch, formatted, IsFormatted};
 

@@ -8,7 +8,7 @@ ghost use Rattle.ring_records.specs.Serving.{shown_in};
 ghost use Rattle.ring_node.specs.Held.{IsShownBy};
 ghost use Rattle.ring_node.specs.Node.{state_of};
 ghost use Rattle.ring_world.specs.Capacity.{process, all_fresh};
-ghost use Rattle.ring_world.specs.Schedule.{IsSchedule};
+ghost use Rattle.ring_world.specs.CapacitySchedule.{IsSchedule};
 ghost use Rattle.ring_world.specs.Happened.{action_of};
 ghost use Rattle.ring_world.specs.Shows.{new_nodes};
 ghost use Rattle.ring_world.specs.Worlds.{is_ring, by_log};

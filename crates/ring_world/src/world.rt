@@ -10,7 +10,7 @@ ghost use Rattle.ring_world.specs.Announced.{announced, Stands};
 ghost use Rattle.ring_audit.specs.Audits.{HasShape};
 ghost use Rattle.ring_audit.specs.Placement.{lists, IsWhole};
 ghost use Rattle.ring_world.specs.Capacity.{committed, state_after, all_fresh};
-ghost use Rattle.ring_world.specs.Schedule.{IsSchedule};
+ghost use Rattle.ring_world.specs.CapacitySchedule.{IsSchedule};
 ghost use Rattle.ring_world.specs.Dropped.{withheld};
 ghost use Rattle.ring_world.specs.Histories.{histories};
 ghost use Rattle.ring_world.specs.Step.{told, Steps, refusal_of};

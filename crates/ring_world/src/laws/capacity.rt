@@ -14,7 +14,7 @@ ghost use Rattle.ring_world.specs.Based.{IsKept};
 ghost use Rattle.ring_world.specs.Capacity.{committed, state_after};
 ghost use Rattle.ring_world.specs.Events.{Thing, Action, Release};
 ghost use Rattle.ring_world.specs.Released.{IsAnnounced};
-ghost use Rattle.ring_world.specs.Schedule.{IsSchedule};
+ghost use Rattle.ring_world.specs.CapacitySchedule.{IsSchedule};
 
 /// In every schedule, at every node, what is released rests on inputs that are durable at its release. They are durable
 /// and the same after all later events.

@@ -9,7 +9,7 @@ ghost use Rattle.ring_records.specs.WorkedRun.{red_5, winner, first_election};
 ghost use Rattle.ring_audit.specs.Placement.{IsWhole};
 ghost use Rattle.ring_world.specs.Capacity.{committed, state_after, all_fresh};
 ghost use Rattle.ring_world.specs.Events.{Launch, LaunchAll};
-ghost use Rattle.ring_world.specs.Schedule.{IsSchedule};
+ghost use Rattle.ring_world.specs.CapacitySchedule.{IsSchedule};
 ghost use Rattle.ring_world.specs.Histories.{histories};
 ghost use Rattle.ring_world.specs.Released.{IsAnnounced};
 ghost use Rattle.ring_world.specs.WorkedSchedule.{election_events, alone, crash_events, crash_run, retire_events, three_layouts, layout_events, layout_run};

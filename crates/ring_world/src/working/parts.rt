@@ -6,7 +6,7 @@ ghost use Rattle.ring_world.specs.Ring.{node_at, carried, is_earned, is_released
 ghost use Rattle.ring_world.specs.Stage.{state_of};
 ghost use Rattle.ring_world.specs.Capacity.{all_fresh};
 ghost use Rattle.ring_world.specs.Left.{IsLeft};
-ghost use Rattle.ring_world.specs.Schedule.{IsSchedule};
+ghost use Rattle.ring_world.specs.CapacitySchedule.{IsSchedule};
 ghost use Rattle.ring_world.specs.Step.{Steps, told, nothing_told, unknown, submitted, flushed, delivered_all, put, stepped, refusal_of};
 ghost use Rattle.ring_world.specs.Worlds.{is_lasting};
 
