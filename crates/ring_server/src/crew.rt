@@ -1,5 +1,5 @@
 //! The threads of a node: its inbox, its doors and, where it may be asked, its clerk, beside the one that flushes.
-ghost use Rattle.std.specs.Prelude.{◌≡◌, ◌+◌, length, IsTrue, IfOk, IfSome, OnOk};
+ghost use Rattle.std.specs.Prelude.{◌≡◌, ◌+◌, length, None, IsTrue, IfOk, IfSome, OnOk};
 ghost use denote.Param.Send.{IsSend};
 
 use crate::clerk::{Clerk, serve_clerk, take_clerk};
@@ -49,7 +49,9 @@ pub(crate) struct Common<'s, A: NodeLedger> {
 }
 
 /// Tells the latch that memory or a place is wanting: the node does not start.
-pub(crate) fn unstarted<T, R: Wait>(rt: &R, latch: &StartLatch) -> Option<T> {
+pub(crate) fn unstarted<T, R: Wait>(rt: &R, latch: &StartLatch) -> Option<T>
+    ensures { result ≡ None }
+{
     latch.tell(rt, Err(Shortage::Memory));
     None
 }
