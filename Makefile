@@ -3,6 +3,7 @@
 # docs: bin/promises.md, each promise and each wrong body, by the sources.
 # bin/NAME: a proved program. bench: the times of ringctl and of the works of bench.
 # ringd: bin/ringd. serve: runs ringd on examples/ring.toml, unproved where bin/ringd is not built.
+# bin/NAME.commit tells the commit that it was built of; install has it in share/ringd/commit.
 # install: bin/ringd, its man page, its units, an example of settings, alerts and the package's wheel, under PREFIX, below DESTDIR.
 # deb: a Debian package of bin/ringd and of what goes with it, in bin.
 # fencing: a leader that is paused and wakes late is turned away, over bin/ringd.
@@ -58,12 +59,16 @@ docs:
 wrong_bodies:
 	@wrong_bodies/run.py --all $(CRATES)
 
+# The commit of what is here, and -dirty behind it where a file differs. No program can tell its own.
+COMMIT = git describe --always --dirty --abbrev=40 --exclude='*' 2> /dev/null || echo unknown
+
 # rt finds out itself what has to be proved anew. It then runs the program, here on the words and the input that the gate
 # runs it on.
 bin/%: always
 	@mkdir -p bin
 	cd crates/$* && rt run -- $$(cat args 2> /dev/null) < $$(ls stdin 2> /dev/null || echo /dev/null) > /dev/null
 	cp crates/$*/out/$* $@
+	@$(COMMIT) > $@.commit
 
 ringd: bin/ringd
 
@@ -82,6 +87,7 @@ install:
 	install -m 755 examples/wait_live.sh $(shared)
 	sed 's|/usr/local|$(PREFIX)|' examples/alerts.yml > $(shared)/alerts.yml
 	install -m 644 examples/ringd.toml examples/grafana.json docs/OPERATING.md $(shared)
+	cat bin/ringd.commit > $(shared)/commit 2> /dev/null || echo unknown > $(shared)/commit
 	python3 clients/python/wheel_backend.py $(shared)
 
 # lintian tells what is wrong with the package, where it is there.

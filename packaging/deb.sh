@@ -43,7 +43,7 @@ gzip -9n "$made"/usr/share/man/man*/*
 
 doc=$made/usr/share/doc/ringd
 install -D -m 644 "$debian/copyright" "$doc/copyright"
-printf 'ringd (%s-1) unstable; urgency=medium\n\n  * See CHANGELOG.md of the repository, at commit %s.\n\n -- %s  %s\n' "$version" "$commit" \
+printf 'ringd (%s-1) unstable; urgency=medium\n\n  * See CHANGELOG.md of the repository, at commit\n    %s.\n\n -- %s  %s\n' "$version" "$commit" \
     "$(sed -n 's/^Maintainer: //p' "$debian/control")" "$(LC_ALL=C date -u -R -d "@$epoch")" | gzip -9n > "$doc/changelog.Debian.gz"
 gzip -9nc "$root/CHANGELOG.md" > "$doc/changelog.gz"
 
