@@ -33,7 +33,7 @@ import promises as made
 from metrics import examples
 
 # Of these pages, and of README.md, CHANGELOG.md, docs/*.md and each other README.md together.
-MOST_WORDS = {"README.md": 1500, "docs/PROMISES.md": 4000, "docs/CLIENTS.md": 1700, "docs/OPERATING.md": 4700, "docs/TESTS.md": 1700}
+MOST_WORDS = {"README.md": 1500, "docs/PROMISES.md": 4000, "docs/CLIENTS.md": 1700, "docs/OPERATING.md": 4500, "docs/TESTS.md": 1700}
 MOST_WORDS_OF_ALL = 41000
 WORDS_OF_A_CRATE = range(60, 301)
 # What the language or its library names, or a line that a client sends, and no file of the repository.
