@@ -40,6 +40,8 @@ shortly() {
 }
 is_none_failed() { [ -z "$(systemctl list-units --failed -q --no-legend)" ]; }
 is_killed() { systemctl kill -s KILL --kill-who=main "$1"; }
+# logs PRIORITY TEXT: the journal has this line of the unit at that priority, shortly.
+logs() { journalctl -q -u ringd -p "$1..$1" -o cat | grep -qx "ringd: $2"; }
 # as_ringd FOLDER WORD..
 as_ringd() { (cd "$1" && setpriv --reuid ringd --regid ringd --clear-groups "$prefix/bin/ringd" "${@:2}"); }
 
@@ -51,6 +53,7 @@ systemctl stop ringd
 [ "$prefix" = /usr ] || install -d -o ringd -m 700 /var/lib/ringd /var/lib/ringd/state
 step "the nodes are made" as_ringd /var/lib/ringd --settings /etc/ringd.toml --make
 step "a start ends well" systemctl start ringd
+step "the commit that it was built of is there" grep -Exq '[0-9a-f]{40}(-dirty)?|unknown' "$prefix/share/ringd/commit"
 step "it serves right behind the start" ask 7101 "stand red 5 10" stood
 step "and tells of itself" tells 7100 /live live
 step "files may be of any size" grep -q "^Max file size *unlimited" "/proc/$(systemctl show -P MainPID ringd)/limits"
@@ -72,6 +75,8 @@ printf 'xxxxxxxxxxxxxxxxxxxxxxxxxxxxxxxxxxxxxxxxxxxxxxxxxxxxxxxxxxxxxxxxxxxxxxxx
     dd of=/var/lib/ringd/state/node-2.crj conv=notrunc status=none
 step "a start of a damaged folder fails" not systemctl start ringd
 step "and the unit tries on" not is ringd active success
+step "the journal has why, as an error" shortly logs err "node 2: unformatted"
+step "and the version and the layout of a start that served, for information" shortly logs info "version .*, layout [0-9]*"
 systemctl stop ringd
 cat /tmp/whole > /var/lib/ringd/state/node-2.crj
 step "with the file put back it starts" systemctl start ringd
@@ -109,6 +114,11 @@ step "a tenant that has no words is refused" not systemctl start ringd@green
 if [ "$prefix" = /usr ]; then
     step "the command is there" cinoweta --version
     step "its page" man -w cinoweta
+    step "and that of the server" man -w ringd
+    step "programs find the package" /usr/bin/python3 -c "import cinoweta"
+    for path in ringd/alerts.yml ringd/grafana.json bash-completion/completions/ringd bash-completion/completions/cinoweta; do
+        step "$path is there" [ -s /usr/share/$path ]
+    done
     step "the package is removed" dpkg --force-unsafe-io -r ringd
     step "and the ring stays" [ -e /var/lib/ringd/state/ring.made ]
 fi
