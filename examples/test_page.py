@@ -9,9 +9,12 @@ import socket
 import subprocess
 import sys
 import tempfile
+import threading
 import time
 import unittest
+import urllib.request
 from html.parser import HTMLParser
+from http.server import BaseHTTPRequestHandler, ThreadingHTTPServer
 
 HERE = pathlib.Path(__file__).resolve().parent
 sys.path.insert(0, str(HERE.parent / "clients" / "python"))
@@ -21,6 +24,35 @@ setUpModule = require
 CHROMIUM = shutil.which("chromium") or shutil.which("chromium-browser") or shutil.which("google-chrome")
 # What a client tells, and what must be shown as it is told.
 TOLD = """<b onclick="a()">host-7</b> & 'more'"""
+
+
+class Between(ThreadingHTTPServer):
+    """Hands on what the status port answers, and keeps when it was asked for what."""
+
+    def __init__(self, status: int) -> None:
+        super().__init__(("127.0.0.1", 0), Handler)
+        self.status = status
+        self.asked: list[tuple[float, str]] = []
+        threading.Thread(target=self.serve_forever, daemon=True).start()
+
+    def end(self) -> None:
+        self.shutdown()
+        self.server_close()
+
+
+class Handler(BaseHTTPRequestHandler):
+    def do_GET(self) -> None:
+        self.server.asked.append((time.monotonic(), self.path))
+        with urllib.request.urlopen(f"http://127.0.0.1:{self.server.status}{self.path}", timeout=30) as answer:
+            body = answer.read()
+        self.send_response(answer.status)
+        self.send_header("Content-Type", answer.headers["Content-Type"])
+        self.send_header("Content-Length", str(len(body)))
+        self.end_headers()
+        self.wfile.write(body)
+
+    def log_message(self, *told: object) -> None:
+        """Nothing."""
 
 
 class Page(HTMLParser):
@@ -60,13 +92,16 @@ class PageTest(unittest.TestCase):
         self.session.sendall(f"{line}\n".encode())
         return self.lines.readline().rstrip("\n")
 
+    def words(self, folder: str, port: int, path: str, *words: str) -> list[str]:
+        """What starts the browser. It knows no host but this one."""
+        return [CHROMIUM, "--headless", "--no-sandbox", "--disable-gpu", "--disable-dev-shm-usage", f"--user-data-dir={folder}",
+                "--host-resolver-rules=MAP * ~NOTFOUND, EXCLUDE 127.0.0.1", "--window-size=900,860", *words,
+                f"http://127.0.0.1:{port}{path}"]
+
     def browse(self, path: str, *words: str) -> str:
-        """What the browser prints. It knows no host but this one."""
+        """What the browser prints."""
         with tempfile.TemporaryDirectory(prefix="cinoweta-") as folder:
-            told = subprocess.run(
-                [CHROMIUM, "--headless", "--no-sandbox", "--disable-gpu", "--disable-dev-shm-usage", f"--user-data-dir={folder}",
-                 "--host-resolver-rules=MAP * ~NOTFOUND, EXCLUDE 127.0.0.1", "--window-size=900,860", *words,
-                 f"http://127.0.0.1:{self.ring.status}{path}"], text=True, capture_output=True, timeout=120)
+            told = subprocess.run(self.words(folder, self.ring.status, path, *words), text=True, capture_output=True, timeout=120)
         self.assertEqual(told.returncode, 0, told.stderr)
         return told.stdout
 
@@ -82,6 +117,23 @@ class PageTest(unittest.TestCase):
         if kept := os.environ.get("SCREENSHOT"):
             self.browse("/", f"--screenshot={kept}")
             self.assertTrue(pathlib.Path(kept).read_bytes().startswith(b"\x89PNG"))
+
+    def test_it_is_asked_for_again(self) -> None:
+        between = Between(self.ring.status)
+        self.addCleanup(between.end)
+        with tempfile.TemporaryDirectory(prefix="cinoweta-", ignore_cleanup_errors=True) as folder:
+            browser = subprocess.Popen(self.words(folder, between.server_port, "/"), stdout=subprocess.DEVNULL,
+                                       stderr=subprocess.DEVNULL)
+            try:
+                until = time.monotonic() + 120
+                while len(between.asked) < 3 and time.monotonic() < until:
+                    time.sleep(0.1)
+            finally:
+                browser.terminate()
+                browser.wait(timeout=30)
+        # By itself, each five seconds, and for nothing else.
+        self.assertEqual([path for _, path in between.asked[:3]], ["/"] * 3)
+        self.assertGreater(between.asked[2][0] - between.asked[0][0], 9.0)
 
     def test_a_group(self) -> None:
         page = Page(self.browse("/groups/red", "--dump-dom"))
