@@ -1,6 +1,7 @@
 #!/usr/bin/env python3
 """What a browser makes of the pages that ringd tells people: RINGD names ringd, else it is bin/ringd. `make clients` runs
 them; where there is no chromium they are skipped. SCREENSHOT names a file for a picture of the page of the ring."""
+import contextlib
 import os
 import pathlib
 import re
@@ -45,11 +46,13 @@ class Handler(BaseHTTPRequestHandler):
         self.server.asked.append((time.monotonic(), self.path))
         with urllib.request.urlopen(f"http://127.0.0.1:{self.server.status}{self.path}", timeout=30) as answer:
             body = answer.read()
-        self.send_response(answer.status)
-        self.send_header("Content-Type", answer.headers["Content-Type"])
-        self.send_header("Content-Length", str(len(body)))
-        self.end_headers()
-        self.wfile.write(body)
+        # The browser may be gone by then.
+        with contextlib.suppress(ConnectionError):
+            self.send_response(answer.status)
+            self.send_header("Content-Type", answer.headers["Content-Type"])
+            self.send_header("Content-Length", str(len(body)))
+            self.end_headers()
+            self.wfile.write(body)
 
     def log_message(self, *told: object) -> None:
         """Nothing."""

@@ -32,6 +32,9 @@ def ask(port: int, line: str) -> str:
 
 class SignalTest(unittest.TestCase):
     def setUp(self) -> None:
+        # Who runs this may ignore some, as behind nohup, and what it starts inherits that.
+        for number in (signal.SIGTERM, signal.SIGINT, signal.SIGHUP):
+            self.addCleanup(signal.signal, number, signal.signal(number, signal.SIG_DFL))
         self.served = Served("--doors", "2")
         self.addCleanup(self.served.end)
 
@@ -106,7 +109,9 @@ class ProcessOneTest(unittest.TestCase):
 
     @unittest.skipUnless(shutil.which("tini"), "tini is not there")
     def test_the_image_has_an_init_that_hands_the_signal_on(self) -> None:
-        process = self.start(*self.words_of_the_image())
+        words = self.words_of_the_image()
+        self.assertIn("--existing", words)
+        process = self.start(*words)
         self.assertEqual(ask(self.served.first, "stand red 1 1"), "stood\n")
         os.kill(self.first(process), signal.SIGTERM)
         # As a shell has it.
