@@ -19,6 +19,7 @@
 # syncs: the system calls of bin/ringd: whether what an answer rests on was synced before.
 # fuzz: both programs, given what nobody would give them; FUZZ has words of trials/fuzz.py.
 # unit: as root, the units of bin/ringd in a systemd that is booted in namespaces of its own: started, stopped, refused.
+# image: as root, the image of examples/Containerfile, built over a Debian that is fetched, and started.
 # hosts: as root, workers on four hosts take turns at a lock, while holders are killed, paused and cut off; turns: four workers on one host, over bin/ringd.
 # lost_host: as root, the host of bin/ringd, whose folder is on a disk of the network, is cut off, fenced and lost, and another one goes on.
 # runbook: as root, the commands of the runbook in docs/OPERATING.md, from top to bottom, with the Debian package.
@@ -32,7 +33,7 @@
 # load: bin/ringd under load; LOAD has further words of bench/load.py.
 .PHONY: run test rows wrong_bodies bench clean always
 .PHONY: ringd install serve fencing clients picture pictures kills years earlier load short threads scrapes writeback syncs fuzz faults growths hangs flips
-.PHONY: starts docs unit copies alerts deb runbook full uses hosts turns lost_host
+.PHONY: starts docs unit image copies alerts deb runbook full uses hosts turns lost_host
 
 ROWS = $(patsubst %/stdin,%,$(wildcard crates/*_rows/stdin))
 
@@ -165,6 +166,9 @@ starts: bin/ringd
 
 unit: bin/ringd
 	@trials/unit.sh
+
+image: bin/ringd
+	@trials/image.sh
 
 runbook: bin/ringd
 	@trials/runbook.py
