@@ -221,8 +221,10 @@ class ShowingTest(Beside, BesideStatus):
                 time.sleep(1.0)
 
         in_a_child(child)
+        # The end of the child's session may not have come to the node yet.
+        self.until(lambda: self.is_shown("red"))
         stood = [line.split()[1] for line in self.nodes[0].stands()]
-        self.assertEqual((self.is_shown("red"), sorted(stood)), (True, ["blue", "blue", "red", "red"]))
+        self.assertEqual(sorted(stood), ["blue", "blue", "red", "red"])
         self.assertNotIn("resign red 1", self.nodes[0].lines)
 
     def test_it_is_held_where_no_thread_is_had(self) -> None:
