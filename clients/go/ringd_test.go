@@ -64,7 +64,7 @@ func TestRingdTellsOfItself(t *testing.T) {
 	same(t, len(faults), 0)
 	told, err := Status(background(t), ring.Host, ring.Status)
 	must(t, err)
-	same(t, []any{told.Dir, len(told.Nodes)}, []any{served.dir(), 3})
+	same(t, []any{told.Dir, len(told.Nodes), len(told.Ring)}, []any{served.dir(), 3, 32})
 	first := told.Nodes[0]
 	same(t, []any{first.Node, first.Port, first.State, first.Stands.Taken}, []any{1, served.first, "well", 1})
 	// Those from 3 to 9 are told before they come.

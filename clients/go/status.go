@@ -19,10 +19,11 @@ const (
 	statusLimit = 5 * time.Second
 )
 
-// A RingStatus is what `ringd --status` tells of a ring: its start in Unix time, the words that it was started with, how
+// A RingStatus is what `ringd --status` tells of a ring: its identity, empty where it has none, its start in Unix time, the words that it was started with, how
 // many seconds a session may be silent, 0 of which is for ever, and the nodes that have no free door.
 type RingStatus struct {
 	Version  string       `json:"version"`
+	Ring     string       `json:"ring"`
 	Dir      string       `json:"dir"`
 	Started  int64        `json:"started"`
 	Words    string       `json:"words"`

@@ -64,13 +64,13 @@ func TestHealth(t *testing.T) {
 
 func TestStatusIsRead(t *testing.T) {
 	leavesNone(t)
-	told, err := Status(background(t), "", status(t, pages{"/status": {http.StatusOK, `{"version": "0.1.0", "dir": "ring-state",
+	told, err := Status(background(t), "", status(t, pages{"/status": {http.StatusOK, `{"version": "0.1.0", "ring": "5ea1", "dir": "ring-state",
 		"started": 1700000000, "words": "--always", "idle": 5, "doorless": [1], "nodes": [{"node": 1, "port": 7101, "state": "failed", "journal": {"inputs": 21, "renewable": true},
 		"stands": {"left": 1000}, "sessions": {"refusals": [{"count": 4, "number": 15}]}, "new": 5}]}`}}))
 	must(t, err)
 	node := NodeStatus{Node: 1, Port: 7101, State: "failed", Journal: JournalStatus{Inputs: 21, Renewable: true},
 		Stands: StandsStatus{Left: 1000}, Sessions: SessionsStatus{Refusals: []RefusalCount{{ErrDeviceFailed, 4}}}}
-	same(t, told, RingStatus{"0.1.0", "ring-state", 1700000000, "--always", 5, []int{1}, []NodeStatus{node}})
+	same(t, told, RingStatus{"0.1.0", "5ea1", "ring-state", 1700000000, "--always", 5, []int{1}, []NodeStatus{node}})
 	for _, wrong := range []page{{200, "[]"}, {200, "well"}, {404, "{}"}, {200, `{"nodes": 3}`}, {200, `{"nodes": [1]}`}, {200, "{}"},
 		{404, `{"nodes": []}`}} {
 		_, err := Status(background(t), "", status(t, pages{"/status": wrong}))
