@@ -24,6 +24,8 @@ from kill import PATIENCE
 from syncs import CALLS, Start, calls, named
 
 NODES = 2
+# What is in a folder then.
+MADE = ["node-1.crj", "node-2.crj", "ring.id", "ring.made"]
 # What a disk does with a sync is not looked at, so none is waited for.
 MEMORY = "/dev/shm"
 # Which calls are refused in turn, and how many of each at most.
@@ -64,7 +66,7 @@ class Makes:
         left = sorted(os.listdir(self.folder))
         for text in seen.texts.values():
             self.fault(f"{what}: {text}")
-        if status == 0 and (seen.names.unstable or len(left) != NODES + 1):
+        if status == 0 and (seen.names.unstable or left != MADE):
             self.fault(f"{what}, and behind it not all names are stable")
         if status == 1:
             self.refused += 1
