@@ -53,14 +53,26 @@ log_rule = record (new_rule (codes "log")) { long = Some (codes "log"); value_na
 abbrev pub with_version : App → App
 with_version app = record app { top = record app.top { has_version = true } }
 
--- the command
+-- the command: the words that say which settings, and for how long; what is done with the folder; how clients are served;
+-- where, and of which ring; and what is told
+abbrev pub with_service : App → App
+with_service app = with_rule (with_rule (with_rule app settings_rule) (number_rule (codes "serve") 1 1000)) always_rule
+
+abbrev pub with_folder : App → App
+with_folder app = with_rule (with_rule (with_rule (with_rule app (flag_rule (codes "existing"))) (flag_rule (codes "fail-stop"))) make_rule) check_rule
+
+abbrev pub with_doors : App → App
+with_doors app =
+    with_rule (with_rule (with_rule (with_rule app (number_rule (codes "doors") 1 DOORS)) (number_rule (codes "idle") 0 86400)) (number_rule (codes "status") 1 65535)) (number_rule (codes "watchers") 0 64)
+
+abbrev pub with_ring : App → App
+with_ring app = with_rule (with_rule (with_rule app listen_rule) (number_rule (codes "leap") 0 999999999)) ring_rule
+
+abbrev pub with_tellings : App → App
+with_tellings app = with_rule (with_rule (with_rule app log_rule) (flag_rule (codes "leaders"))) (flag_rule (codes "verbose"))
+
 abbrev pub ringd_app : App
-ringd_app =
-    let served = with_rule (with_rule (with_version (new_app (codes "ringd"))) settings_rule) (number_rule (codes "serve") 1 1000) in
-    let flags = with_rule (with_rule (with_rule served always_rule) (flag_rule (codes "existing"))) (flag_rule (codes "fail-stop")) in
-    let numbers = with_rule (with_rule (with_rule (with_rule flags make_rule) check_rule) (number_rule (codes "doors") 1 DOORS)) (number_rule (codes "idle") 0 86400) in
-    let ports = with_rule (with_rule (with_rule (with_rule numbers (number_rule (codes "status") 1 65535)) (number_rule (codes "watchers") 0 64)) listen_rule) (number_rule (codes "leap") 0 999999999) in
-    with_rule (with_rule (with_rule (with_rule ports ring_rule) log_rule) (flag_rule (codes "leaders"))) (flag_rule (codes "verbose"))
+ringd_app = with_tellings (with_ring (with_doors (with_folder (with_service (with_version (new_app (codes "ringd")))))))
 
 abbrev pub IsIn : ℕ → ℕ → ℕ → Type 0
 IsIn low high n = (low ≤ n) × (n ≤ high)

@@ -2,7 +2,7 @@
 ghost use Rattle.std.specs.Prelude.{◌≡◌, ◌<◌, ◌≤◌, ◌||◌, true, false, nat_lt, is_none, Option, Some, None, IfOk, IfSome, map, codes, unwrap_or};
 ghost use Rattle.ring_records.specs.declared.limits.TheConstants.{DOORS};
 ghost use Rattle.clap.specs.Words.{app_of, first_value, found_of, one_text, rule_of, with_rule};
-ghost use Rattle.ring_service.specs.Words.{AreTold, Flag, IsForm, IsIn, IsMatched, IsRing, IsSaid, ringd_app};
+ghost use Rattle.ring_service.specs.Words.{AreTold, Flag, IsForm, IsIn, IsMatched, IsRing, IsSaid, ringd_app, with_doors, with_folder, with_ring, with_service, with_tellings};
 ghost use Rattle.ring_service.specs.Hosts.{IsHost};
 
 mod args;
@@ -129,6 +129,53 @@ fn with_arg<'a>(command: Command<'a>, arg: Arg<'a>) -> Result<Command<'a>, Alloc
     command.arg(arg)
 }
 
+/// With the words that say which settings, and for how long.
+fn with_service<'a>(alloc: Global, command: Command<'a>) -> Result<Command<'a>, AllocError>
+    ensures { IfOk result (λ more. app_of more ≡ with_service (app_of command.entry)) }
+{
+    let command = with_arg(command, settings_arg(alloc))?;
+    let command = with_arg(command, serve_arg(alloc))?;
+    with_arg(command, always_arg(alloc)?)
+}
+
+/// With the words that say what is done with the folder.
+fn with_folder<'a>(alloc: Global, command: Command<'a>) -> Result<Command<'a>, AllocError>
+    ensures { IfOk result (λ more. app_of more ≡ with_folder (app_of command.entry)) }
+{
+    let command = with_arg(command, existing_arg(alloc))?;
+    let command = with_arg(command, fail_stop_arg(alloc))?;
+    let command = with_arg(command, make_arg(alloc)?)?;
+    with_arg(command, check_arg(alloc)?)
+}
+
+/// With the words that say how clients are served.
+fn with_doors<'a>(alloc: Global, command: Command<'a>) -> Result<Command<'a>, AllocError>
+    ensures { IfOk result (λ more. app_of more ≡ with_doors (app_of command.entry)) }
+{
+    let command = with_arg(command, doors_arg(alloc))?;
+    let command = with_arg(command, idle_arg(alloc))?;
+    let command = with_arg(command, status_arg(alloc))?;
+    with_arg(command, watchers_arg(alloc))
+}
+
+/// With the words that say where, and of which ring.
+fn with_ring<'a>(alloc: Global, command: Command<'a>) -> Result<Command<'a>, AllocError>
+    ensures { IfOk result (λ more. app_of more ≡ with_ring (app_of command.entry)) }
+{
+    let command = with_arg(command, listen_arg(alloc))?;
+    let command = with_arg(command, leap_arg(alloc))?;
+    with_arg(command, ring_arg(alloc))
+}
+
+/// With the words that say what is told.
+fn with_tellings<'a>(alloc: Global, command: Command<'a>) -> Result<Command<'a>, AllocError>
+    ensures { IfOk result (λ more. app_of more ≡ with_tellings (app_of command.entry)) }
+{
+    let command = with_arg(command, log_arg(alloc))?;
+    let command = with_arg(command, leaders_arg(alloc))?;
+    with_arg(command, verbose_arg(alloc))
+}
+
 /// The command that the words are of.
 fn command<'a>(alloc: Global) -> Result<Command<'a>, AllocError>
     ensures { IfOk result (λ command. app_of command ≡ ringd_app) }
@@ -136,23 +183,11 @@ fn command<'a>(alloc: Global) -> Result<Command<'a>, AllocError>
     let named = Command::new(alloc, "ringd")
         .version(VERSION_AND_LAYOUT)
         .about("A ring of durable nodes that elect a leader for each group and term");
-    let command = with_arg(named, settings_arg(alloc))?;
-    let command = with_arg(command, serve_arg(alloc))?;
-    let command = with_arg(command, always_arg(alloc)?)?;
-    let command = with_arg(command, existing_arg(alloc))?;
-    let command = with_arg(command, fail_stop_arg(alloc))?;
-    let command = with_arg(command, make_arg(alloc)?)?;
-    let command = with_arg(command, check_arg(alloc)?)?;
-    let command = with_arg(command, doors_arg(alloc))?;
-    let command = with_arg(command, idle_arg(alloc))?;
-    let command = with_arg(command, status_arg(alloc))?;
-    let command = with_arg(command, watchers_arg(alloc))?;
-    let command = with_arg(command, listen_arg(alloc))?;
-    let command = with_arg(command, leap_arg(alloc))?;
-    let command = with_arg(command, ring_arg(alloc))?;
-    let command = with_arg(command, log_arg(alloc))?;
-    let command = with_arg(command, leaders_arg(alloc))?;
-    with_arg(command, verbose_arg(alloc))
+    let command = with_service(alloc, named)?;
+    let command = with_folder(alloc, command)?;
+    let command = with_doors(alloc, command)?;
+    let command = with_ring(alloc, command)?;
+    with_tellings(alloc, command)
 }
 
 /// The number that is matched to a word. Refused where what is matched is no number in this range, which the word's
@@ -169,6 +204,24 @@ fn number(
         Ok(None) => Ok(None),
         Ok(Some(number)) if low <= number && number <= high => Ok(Some(number)),
         _ => Err(Objection::Number),
+    }
+}
+
+/// The number that is matched to a word, or this one where none is.
+fn said(
+    matches: &ArgMatches<'_>,
+    word: &str,
+    low: u32,
+    high: u32,
+    otherwise: u32,
+) -> Result<u32, Objection>
+    requires { IsIn low high otherwise }
+    ensures said { IfOk result (IsSaid low high otherwise (one_text (found_of matches.now) word.now)) }
+    ensures range { IfOk result (IsIn low high) }
+{
+    match number(matches, word, low, high)? {
+        Some(number) => Ok(number),
+        None => Ok(otherwise),
     }
 }
 
@@ -261,15 +314,15 @@ fn words_of<'a>(matches: &ArgMatches<'a>) -> Result<Words<'a>, Objection>
         None => "-",
     };
     let serve = number(matches, "serve", 1, 1000)?;
-    let idle = number(matches, "idle", 0, 86_400)?;
+    let idle = said(matches, "idle", 0, 86_400, 0)?;
     let status = port(matches)?;
-    let watchers = number(matches, "watchers", 0, 64)?;
-    let doors = number(matches, "doors", 1, DOORS)?.unwrap_or(1);
+    let watchers = said(matches, "watchers", 0, 64, 16)?;
+    let doors = said(matches, "doors", 1, DOORS, 1)?;
     if !have_place(doors, status) {
         return Err(Objection::Doors);
     }
     let listen = host(matches)?;
-    let leap = number(matches, "leap", 0, 999_999_999)?;
+    let leap = said(matches, "leap", 0, 999_999_999, 1_000_000)?;
     let ring = ring(matches)?;
     let log = form(matches)?;
     let check = matches.get_flag("check");
@@ -286,11 +339,11 @@ fn words_of<'a>(matches: &ArgMatches<'a>) -> Result<Words<'a>, Objection>
         existing: matches.get_flag("existing"),
         fail_stop: matches.get_flag("fail-stop"),
         doors,
-        idle: idle.unwrap_or(0),
+        idle,
         status,
-        watchers: watchers.unwrap_or(16),
+        watchers,
         listen,
-        leap: leap.unwrap_or(1_000_000),
+        leap,
         ring,
         log,
         verbose: matches.get_flag("verbose"),

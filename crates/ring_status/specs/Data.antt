@@ -1,6 +1,6 @@
 -- What is told as JSON. The members stand in the order of their names.
 use Rattle.std.specs.Prelude.{ℕ, Bool, List, map, codes, Option, Some, None, option_map}
-use Rattle.serde_json.specs.Data.{Data, array, boolean, member, no_members, null, number, object, string, unsigned}
+use Rattle.serde_json.specs.Data.{Data, Members, array, boolean, member, no_members, null, number, object, string, unsigned}
 use Rattle.serde_json.specs.View.{items_of}
 use Rattle.ring_records.specs.declared.decision.Decision.{Decision}
 use Rattle.ring_status.specs.declared.holder.Holder.{Holder}
@@ -29,21 +29,31 @@ condition_text Failed = codes "failed"
 abbrev pub refusal_data : RefusalCount → Data
 refusal_data told = object (member (codes "count") (natural told.count) (member (codes "number") (natural told.number) no_members))
 
-abbrev pub journal_data : NodeStatus → Data
-journal_data node = object
-    (member (codes "batches") (natural node.counts.batches)
-    (member (codes "capacity") (natural node.held.capacity)
-    (member (codes "checkpoints") (natural node.counts.checkpoints)
-    (member (codes "durable") (natural node.held.shown.durable)
-    (member (codes "epoch") (natural node.held.epoch)
-    (member (codes "inputs") (natural node.held.shown.inputs)
-    (member (codes "layout") (natural node.held.layout)
-    (member (codes "refused") (natural node.counts.refused_rounds)
-    (member (codes "renewable") (boolean node.renewable)
+-- the members of a journal: the last ones, those before, and all
+abbrev pub journal_last : NodeStatus → Members
+journal_last node =
+    member (codes "renewable") (boolean node.renewable)
     (member (codes "snapshot") (natural node.held.snapshot)
     (member (codes "syncs") (natural node.counts.syncs)
     (member (codes "used") (natural node.held.used)
-    (member (codes "writing") (natural node.writing) no_members)))))))))))))
+    (member (codes "writing") (natural node.writing) no_members))))
+
+abbrev pub journal_middle : NodeStatus → Members
+journal_middle node =
+    member (codes "epoch") (natural node.held.epoch)
+    (member (codes "inputs") (natural node.held.shown.inputs)
+    (member (codes "layout") (natural node.held.layout)
+    (member (codes "refused") (natural node.counts.refused_rounds) (journal_last node))))
+
+abbrev pub journal_members : NodeStatus → Members
+journal_members node =
+    member (codes "batches") (natural node.counts.batches)
+    (member (codes "capacity") (natural node.held.capacity)
+    (member (codes "checkpoints") (natural node.counts.checkpoints)
+    (member (codes "durable") (natural node.held.shown.durable) (journal_middle node))))
+
+abbrev pub journal_data : NodeStatus → Data
+journal_data node = object (journal_members node)
 
 abbrev pub messages_data : NodeStatus → Data
 messages_data node = object

@@ -1,14 +1,14 @@
 // What is told as JSON.
-ghost use Rattle.std.specs.Prelude.{◌≡◌, false, IfOk, map, option_map, string_bytes};
-ghost use Rattle.serde_json.specs.Data.{array, string};
-ghost use Rattle.serde_json.specs.View.{items_of, view};
+ghost use Rattle.std.specs.Prelude.{◌≡◌, false, IfOk, OnOk, map, option_map, string_bytes};
+ghost use Rattle.serde_json.specs.Data.{array, no_members, object, string, put as with_member};
+ghost use Rattle.serde_json.specs.View.{items_of, members_view, view};
 ghost use Rattle.serde_json.specs.Written.{compact_text, has_float};
-ghost use Rattle.ring_status.specs.Data.{condition_text, identity_data, journal_data, latest_data, lead_data, leaders_data, messages_data, natural, node_data, refusal_data, sessions_data, stands_data, status_data};
+ghost use Rattle.ring_status.specs.Data.{condition_text, identity_data, journal_data, journal_last, journal_members, journal_middle, latest_data, lead_data, leaders_data, messages_data, natural, node_data, refusal_data, sessions_data, stands_data, status_data};
 
 use crate::holder::Holder;
 use crate::values::{Condition, NodeStatus, RefusalCount, RingStatus};
 use ring_records::{Decision, GroupName, NodeNo};
-use serde_json::{Value, json};
+use serde_json::{Map, Value, json, put};
 use std::alloc::{AllocError, Global};
 use std::str;
 
@@ -41,24 +41,72 @@ fn refusals_json(alloc: Global, told: &[RefusalCount]) -> Result<Value, AllocErr
     Ok(Value::Array(all))
 }
 
+// One member more, a number.
+fn put_number(
+    members: &mut Map<String, Value>,
+    alloc: Global,
+    name: &str,
+    number: u64,
+) -> Result<(), AllocError>
+    ensures { OnOk result (members_view members.new.entries ≡ with_member name.now (natural number) (members_view members.old.entries)) }
+{
+    put(members, alloc, name, Value::from(number))
+}
+
+// The last members of a journal, from the last one on, so that each stands before all that are there.
+fn put_last(
+    members: &mut Map<String, Value>,
+    alloc: Global,
+    node: &NodeStatus,
+) -> Result<(), AllocError>
+    requires { members_view members.old.entries ≡ no_members }
+    ensures { OnOk result (members_view members.new.entries ≡ journal_last node.now) }
+{
+    put_number(members, alloc, "writing", node.writing)?;
+    put_number(members, alloc, "used", node.held.used)?;
+    put_number(members, alloc, "syncs", node.counts.syncs)?;
+    put_number(members, alloc, "snapshot", node.held.snapshot)?;
+    put(members, alloc, "renewable", Value::from(node.renewable))
+}
+
+// Those before these.
+fn put_middle(
+    members: &mut Map<String, Value>,
+    alloc: Global,
+    node: &NodeStatus,
+) -> Result<(), AllocError>
+    requires { members_view members.old.entries ≡ journal_last node.now }
+    ensures { OnOk result (members_view members.new.entries ≡ journal_middle node.now) }
+{
+    put_number(members, alloc, "refused", node.counts.refused_rounds)?;
+    put_number(members, alloc, "layout", u64::from(node.held.layout))?;
+    put_number(members, alloc, "inputs", node.held.shown.inputs)?;
+    put_number(members, alloc, "epoch", node.held.epoch)
+}
+
+// And the first ones.
+fn put_first(
+    members: &mut Map<String, Value>,
+    alloc: Global,
+    node: &NodeStatus,
+) -> Result<(), AllocError>
+    requires { members_view members.old.entries ≡ journal_middle node.now }
+    ensures { OnOk result (members_view members.new.entries ≡ journal_members node.now) }
+{
+    put_number(members, alloc, "durable", node.held.shown.durable)?;
+    put_number(members, alloc, "checkpoints", node.counts.checkpoints)?;
+    put_number(members, alloc, "capacity", node.held.capacity)?;
+    put_number(members, alloc, "batches", node.counts.batches)
+}
+
 fn journal_json(alloc: Global, node: &NodeStatus) -> Result<Value, AllocError>
     ensures { IfOk result (λ v. view v ≡ journal_data node.now) }
 {
-    json!(in alloc; {
-        "batches": node.counts.batches,
-        "capacity": node.held.capacity,
-        "checkpoints": node.counts.checkpoints,
-        "durable": node.held.shown.durable,
-        "epoch": node.held.epoch,
-        "inputs": node.held.shown.inputs,
-        "layout": node.held.layout,
-        "refused": node.counts.refused_rounds,
-        "renewable": node.renewable,
-        "snapshot": node.held.snapshot,
-        "syncs": node.counts.syncs,
-        "used": node.held.used,
-        "writing": node.writing
-    })
+    let mut members = Map::new(alloc);
+    put_last(&mut members, alloc, node)?;
+    put_middle(&mut members, alloc, node)?;
+    put_first(&mut members, alloc, node)?;
+    Ok(Value::Object(members))
 }
 
 fn messages_json(alloc: Global, node: &NodeStatus) -> Result<Value, AllocError>
@@ -91,23 +139,32 @@ fn stands_json(alloc: Global, node: &NodeStatus) -> Result<Value, AllocError>
     json!(in alloc; {"floors": node.held.floors, "left": node.stands_left, "taken": node.held.stands})
 }
 
+// The members of a node, from the last one on.
+fn put_node(
+    members: &mut Map<String, Value>,
+    alloc: Global,
+    node: &NodeStatus,
+) -> Result<(), AllocError>
+    requires { members_view members.old.entries ≡ no_members }
+    ensures { OnOk result (object (members_view members.new.entries) ≡ node_data node.now) }
+{
+    let state = String::from_str(alloc, condition_text(node.condition))?;
+    put(members, alloc, "state", Value::String(state))?;
+    put(members, alloc, "stands", stands_json(alloc, node)?)?;
+    put(members, alloc, "sessions", sessions_json(alloc, node)?)?;
+    put_number(members, alloc, "port", u64::from(node.place.port))?;
+    put_number(members, alloc, "node", u64::from(node.place.node.number()))?;
+    put(members, alloc, "messages", messages_json(alloc, node)?)?;
+    put(members, alloc, "journal", journal_json(alloc, node)?)?;
+    put_number(members, alloc, "elections", node.counts.elections)
+}
+
 fn node_json(alloc: Global, node: &NodeStatus) -> Result<Value, AllocError>
     ensures { IfOk result (λ v. view v ≡ node_data node.now) }
 {
-    let journal = journal_json(alloc, node)?;
-    let messages = messages_json(alloc, node)?;
-    let sessions = sessions_json(alloc, node)?;
-    let stands = stands_json(alloc, node)?;
-    json!(in alloc; {
-        "elections": node.counts.elections,
-        "journal": journal,
-        "messages": messages,
-        "node": node.place.node.number(),
-        "port": node.place.port,
-        "sessions": sessions,
-        "stands": stands,
-        "state": condition_text(node.condition)
-    })
+    let mut members = Map::new(alloc);
+    put_node(&mut members, alloc, node)?;
+    Ok(Value::Object(members))
 }
 
 fn nodes_json(alloc: Global, nodes: &[NodeStatus]) -> Result<Value, AllocError>
@@ -145,23 +202,54 @@ fn identity_json(alloc: Global, ring: Option<&str>) -> Result<Value, AllocError>
     }
 }
 
+// One member more, a text.
+fn put_text(
+    members: &mut Map<String, Value>,
+    alloc: Global,
+    name: &str,
+    text: &str,
+) -> Result<(), AllocError>
+    ensures { OnOk result (members_view members.new.entries ≡ with_member name.now (string text.now) (members_view members.old.entries)) }
+{
+    put(
+        members,
+        alloc,
+        name,
+        Value::String(String::from_str(alloc, text)?),
+    )
+}
+
+// The members of the ring, from the last one on.
 #[tactic(auto, unfolding(crate::specs::Data::status_data))]
+fn put_ring(
+    members: &mut Map<String, Value>,
+    alloc: Global,
+    ring: &RingStatus<'_>,
+) -> Result<(), AllocError>
+    requires { members_view members.old.entries ≡ no_members }
+    ensures { OnOk result (object (members_view members.new.entries) ≡ status_data ring.now) }
+{
+    put_text(members, alloc, "words", ring.words)?;
+    put_text(members, alloc, "version", ring.version)?;
+    put_number(members, alloc, "started", ring.started)?;
+    put(members, alloc, "ring", identity_json(alloc, ring.ring)?)?;
+    put(members, alloc, "nodes", nodes_json(alloc, ring.nodes)?)?;
+    put_number(members, alloc, "idle", u64::from(ring.idle))?;
+    put(
+        members,
+        alloc,
+        "doorless",
+        numbers_json(alloc, ring.doorless)?,
+    )?;
+    put_text(members, alloc, "dir", ring.dir)
+}
+
 fn ring_json(alloc: Global, ring: &RingStatus<'_>) -> Result<Value, AllocError>
     ensures { IfOk result (λ v. view v ≡ status_data ring.now) }
 {
-    let nodes = nodes_json(alloc, ring.nodes)?;
-    let doorless = numbers_json(alloc, ring.doorless)?;
-    let identity = identity_json(alloc, ring.ring)?;
-    json!(in alloc; {
-        "dir": ring.dir,
-        "doorless": doorless,
-        "idle": ring.idle,
-        "nodes": nodes,
-        "ring": identity,
-        "started": ring.started,
-        "version": ring.version,
-        "words": ring.words
-    })
+    let mut members = Map::new(alloc);
+    put_ring(&mut members, alloc, ring)?;
+    Ok(Value::Object(members))
 }
 
 #[tactic(auto, using(crate::proofs::Names::name_is_text))]
@@ -209,7 +297,25 @@ fn page_json(
     json!(in alloc; {"by": node.number(), "leaders": leads, "more": more})
 }
 
+// The members of a leader, from the last one on.
 #[tactic(auto, unfolding(crate::specs::Data::latest_data))]
+fn put_leader(
+    members: &mut Map<String, Value>,
+    alloc: Global,
+    node: NodeNo,
+    lead: &Decision,
+    holder: &Holder<'_>,
+) -> Result<(), AllocError>
+    requires { members_view members.old.entries ≡ no_members }
+    ensures { OnOk result (object (members_view members.new.entries) ≡ latest_data node lead.now holder.now) }
+{
+    put_text(members, alloc, "text", holder.text)?;
+    put(members, alloc, "resigned", Value::from(holder.resigned))?;
+    put(members, alloc, "present", Value::from(holder.present))?;
+    put(members, alloc, "leader", lead_json(alloc, lead)?)?;
+    put_number(members, alloc, "by", u64::from(node.number()))
+}
+
 fn leader_json(
     alloc: Global,
     node: NodeNo,
@@ -218,14 +324,9 @@ fn leader_json(
 ) -> Result<Value, AllocError>
     ensures { IfOk result (λ v. view v ≡ latest_data node lead.now holder.now) }
 {
-    let lead = lead_json(alloc, lead)?;
-    json!(in alloc; {
-        "by": node.number(),
-        "leader": lead,
-        "present": holder.present,
-        "resigned": holder.resigned,
-        "text": holder.text
-    })
+    let mut members = Map::new(alloc);
+    put_leader(&mut members, alloc, node, lead, holder)?;
+    Ok(Value::Object(members))
 }
 
 // The text of a value in which no number has a fraction.
