@@ -38,19 +38,41 @@ pub fn plays<D: Device, R: Abort + AllocGlobal>(rt: &R, device: &mut D, steps: &
 
 fn does<D: Device, R: Abort + AllocGlobal>(rt: &R, device: &mut D, step: &Step<'_>) {
     match *step {
-        Step::Write(off, bytes) => assert!(rt; device.write_at(off, bytes).is_ok()),
-        Step::WriteFails(off, bytes) => assert!(rt; device.write_at(off, bytes).is_err()),
-        Step::Sync => assert!(rt; device.sync().is_ok()),
-        Step::SyncFails => assert!(rt; device.sync().is_err()),
+        Step::Write(off, bytes) => writes(rt, device, off, bytes, true),
+        Step::WriteFails(off, bytes) => writes(rt, device, off, bytes, false),
+        Step::Sync => syncs(rt, device, true),
+        Step::SyncFails => syncs(rt, device, false),
         Step::Reads(off, wanted) => reads(rt, device, off, wanted),
-        Step::ReadFails(off, len) => assert!(rt; read(rt, device, off, len).0),
-        Step::HasSize(size) => assert!(rt; device.size() == size),
-        Step::Holds(wanted) => {
-            assert!(rt; device.size() == (wanted.len() as u64));
-            reads(rt, device, 0, wanted)
-        }
-        Step::Failed(calls) => assert!(rt; device.failures() == calls),
+        Step::ReadFails(off, len) => fails_to_read(rt, device, off, len),
+        Step::HasSize(size) => has(rt, device.size(), size),
+        Step::Holds(wanted) => holds(rt, device, wanted),
+        Step::Failed(calls) => has(rt, device.failures(), calls),
     }
+}
+
+/// Whether the write succeeds.
+fn writes<D: Device>(rt: &impl Abort, device: &mut D, off: u64, bytes: &[u8], is_done: bool) {
+    assert!(rt; device.write_at(off, bytes).is_ok() == is_done);
+}
+
+/// Whether the sync succeeds.
+fn syncs<D: Device>(rt: &impl Abort, device: &mut D, is_done: bool) {
+    assert!(rt; device.sync().is_ok() == is_done);
+}
+
+fn has(rt: &impl Abort, count: u64, wanted: u64) {
+    assert!(rt; count == wanted);
+}
+
+fn holds<D: Device, R: Abort + AllocGlobal>(rt: &R, device: &mut D, wanted: &[u8]) {
+    assert!(rt; device.size() == (wanted.len() as u64));
+    reads(rt, device, 0, wanted);
+}
+
+fn fails_to_read<D: Device, R: Abort + AllocGlobal>(rt: &R, device: &mut D, off: u64, len: usize) {
+    let (fails, bytes) = read(rt, device, off, len);
+    drop(bytes);
+    assert!(rt; fails);
 }
 
 /// Whether a read from `off` on, of so many bytes, fails; and the buffer then, which has nines at first.
@@ -67,8 +89,8 @@ fn read<D: Device, R: Abort + AllocGlobal>(
 
 pub fn reads<D: Device, R: Abort + AllocGlobal>(rt: &R, device: &mut D, off: u64, wanted: &[u8]) {
     let (fails, bytes) = read(rt, device, off, wanted.len());
-    assert!(rt; !fails);
-    assert!(rt; bytes.as_slice() == wanted);
+    assert!(rt; !fails && bytes.as_slice() == wanted);
+    drop(bytes);
 }
 
 /// A device of at most so many bytes, with which this was done.

@@ -4,9 +4,10 @@ ghost use Rattle.ring_records.specs.Snapshot.{IsSound};
 ghost use Rattle.gated_journal.specs.Batch.{base_by};
 ghost use Rattle.gated_journal.specs.Journal.{member_of};
 
+use crate::journal::{lands, made, renews};
 use disk_model::MemDevice;
 use gated_journal::{Batch, Checkpoint, Journal, Opening, Receipt, Spoiled, device_size};
-use ring_records::{Input, LAYOUT, NodeNo, Refusal, read_summary, summary_len};
+use ring_records::{Input, LAYOUT, NodeNo, Refusal, read_summary};
 use std::alloc::Global;
 use std::process::Abort;
 use test_rows::Op;
@@ -64,12 +65,7 @@ fn committed(rt: &impl Abort, alloc: Global) -> Journal<MemDevice>
         panic!(rt; "the device works");
     };
     let batch = batch_at_last(rt, alloc, &stand(rt));
-    assert!(rt; !journal.is_spoiled());
-    assert!(rt; batch.node() == journal.node());
-    assert!(rt; batch.first() == journal.len());
-    assert!(rt; journal.room() >= batch.cost());
-    assert!(rt; journal.suits(batch.inputs()));
-    is_durable(rt, journal.commit(batch));
+    is_durable(rt, lands(rt, &mut journal, batch));
     journal
 }
 
@@ -77,13 +73,10 @@ fn committed(rt: &impl Abort, alloc: Global) -> Journal<MemDevice>
 fn checkpoint(rt: &impl Abort, alloc: Global) -> Result<Checkpoint, Refusal>
     ensures { IfOk result (λ made. IsSound 3 (base_by made)) }
 {
-    let base = match read_summary(alloc, &STOOD, 3, 3) {
-        Ok(base) => base,
-        Err(refusal) => return Err(refusal),
-    };
-    assert!(rt; summary_len(&base, LAYOUT) <= u64::from(u32::MAX));
-    assert!(rt; base.keys.len() <= u32::MAX as usize);
-    Checkpoint::new(alloc, NodeNo::first(), 1, &[], base)
+    match read_summary(alloc, &STOOD, 3, LAYOUT) {
+        Ok(base) => made(rt, alloc, 1, &[], base),
+        Err(refusal) => Err(refusal),
+    }
 }
 
 fn checkpoint_at_last(rt: &impl Abort, alloc: Global) -> Checkpoint
@@ -102,12 +95,7 @@ fn takes_checkpoint(rt: &impl Abort, alloc: Global, journal: &mut Journal<MemDev
     requires { (member_of journal.old).n ≡ 3 }
 {
     let checkpoint = checkpoint_at_last(rt, alloc);
-    assert!(rt; !journal.is_spoiled());
-    assert!(rt; checkpoint.node() == journal.node());
-    assert!(rt; checkpoint.first() == journal.len());
-    assert!(rt; checkpoint.cost() <= journal.capacity());
-    assert!(rt; journal.epoch() < (1 << 40) - 1);
-    is_durable(rt, journal.checkpoint(checkpoint));
+    is_durable(rt, renews(rt, journal, checkpoint));
 }
 
 /// The journal on the device, which comes back where the first call finds no memory.
@@ -125,8 +113,14 @@ fn reopened_at_last(
     assert!(rt; refusal == Refusal::OutOfMemory);
     match Journal::reopen(alloc, device, NodeNo::first(), 3) {
         Ok(found) => found,
-        Err((_device, refusal)) => panic!(rt; "{refusal:?}"),
+        Err(_) => panic!(rt; "not reopened"),
     }
+}
+
+/// The opening is of this epoch, with a summary of so many inputs, and these behind it.
+fn is_opened(rt: &impl Abort, opening: &Opening, found: (u64, u64), inputs: &[Input]) {
+    assert!(rt; (opening.epoch, opening.base.inputs) == found);
+    assert!(rt; opening.inputs.as_slice() == inputs);
 }
 
 #[test]
@@ -134,12 +128,10 @@ fn refused_growths(rt: HostRuntime) {
     let alloc = rt.alloc();
     let device = committed(&rt, alloc).into_device();
     let (mut journal, opening) = reopened_at_last(&rt, alloc, device);
-    assert!(rt; (opening.epoch, opening.base.inputs) == (1, 0));
-    assert!(rt; opening.inputs.as_slice() == stand(&rt).as_slice());
+    is_opened(&rt, &opening, (1, 0), &stand(&rt));
     drop(opening);
     takes_checkpoint(&rt, alloc, &mut journal);
     let (journal, opening) = reopened_at_last(&rt, alloc, journal.into_device());
-    assert!(rt; (opening.epoch, opening.base.inputs) == (2, 1));
-    assert!(rt; opening.inputs.is_empty());
+    is_opened(&rt, &opening, (2, 1), &[]);
     drop((journal, opening));
 }

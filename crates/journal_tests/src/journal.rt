@@ -1,6 +1,6 @@
 // The journals of gated_journal: what no clause says, which is the bytes on the device, and that calls succeed with ample
 // memory. The bytes are worked out by hand from the layout.
-ghost use Rattle.std.specs.Prelude.{◌≡◌};
+ghost use Rattle.std.specs.Prelude.{◌≡◌, IfOk};
 ghost use Rattle.ring_records.specs.Snapshot.{IsSound};
 ghost use Rattle.gated_journal.specs.Batch.{base_by};
 ghost use Rattle.gated_journal.specs.Journal.{member_of};
@@ -8,7 +8,7 @@ ghost use Rattle.gated_journal.specs.Journal.{member_of};
 use crate::devices::{self, memory_device, reads};
 use disk_model::{Device, FuseDevice, MemDevice, Tear};
 use gated_journal::{Batch, Checkpoint, Journal, Opening, Receipt, Spoiled, device_size};
-use ring_records::{Input, LAYOUT, NodeNo, Refusal, read_summary, summary_len};
+use ring_records::{Input, LAYOUT, NodeNo, Refusal, Summary, read_summary, summary_len};
 use std::alloc::{AllocGlobal, Global};
 use std::process::Abort;
 use test_rows::{Note, Op};
@@ -48,6 +48,9 @@ const SECOND: [u8; 84] = [
     0, 0, 0, 0, 0, 0, 0, 0, 0, 0, 0, 0, 0, 0, 1, 0, 1, 0, 0, 0, 1, 3, 0x72, 0x65, 0x64, 0, 0, 0, 5,
     1, 0, 0, 0, 10, 2, 3, 0x72, 0x65, 0x64, 0, 0, 0, 5, 0, 0, 0, 10, 1, 0, 0, 0, 0, 0,
 ];
+
+/// The same, for what takes a reference to it.
+static SECOND_AREA: [u8; 84] = SECOND;
 
 const STOOD: Op = Op::Stand("red", 5, 10);
 
@@ -103,6 +106,7 @@ fn fresh<R: Abort + AllocGlobal>(rt: &R) -> Journal<FuseDevice<MemDevice>>
 fn are_parts(rt: &impl Abort, parts: (NodeNo, u64, Vec<Input>), first: u64, inputs: &[Input]) {
     assert!(rt; (parts.0.number(), parts.1) == (1, first));
     assert!(rt; parts.2.as_slice() == inputs);
+    drop(parts);
 }
 
 /// What was to become durable has a snapshot of so many bytes, or none, and these inputs; whether it is durable.
@@ -127,6 +131,22 @@ fn is_spent(
     }
 }
 
+/// Commits the batch, which is the journal's next one.
+pub fn lands<D: Device>(
+    rt: &impl Abort,
+    journal: &mut Journal<D>,
+    batch: Batch,
+) -> Result<Receipt, Spoiled>
+    ensures { member_of journal.new ≡ member_of journal.old }
+{
+    assert!(rt; !journal.is_spoiled());
+    assert!(rt; batch.node() == journal.node());
+    assert!(rt; batch.first() == journal.len());
+    assert!(rt; journal.room() >= batch.cost());
+    assert!(rt; journal.suits(batch.inputs()));
+    journal.commit(batch)
+}
+
 /// Commits the inputs as the journal's next ones, and tells whether that succeeded.
 fn commits<D: Device, R: Abort + AllocGlobal>(
     rt: &R,
@@ -137,14 +157,36 @@ fn commits<D: Device, R: Abort + AllocGlobal>(
 {
     let first = journal.len();
     let batch = Batch::new(rt.alloc(), journal.node(), first, inputs).expect(rt, "a batch");
-    assert!(rt; !journal.is_spoiled());
-    assert!(rt; batch.node() == journal.node());
-    assert!(rt; batch.first() == journal.len());
-    assert!(rt; journal.room() >= batch.cost());
-    assert!(rt; journal.suits(batch.inputs()));
-    let committed = is_spent(rt, journal.commit(batch), first, inputs, None);
+    let committed = is_spent(rt, lands(rt, journal, batch), first, inputs, None);
     assert!(rt; journal.is_spoiled() == !committed);
     committed
+}
+
+/// The checkpoint of node 1 by this summary, which stands for these inputs too, from this number on.
+pub fn made(
+    rt: &impl Abort,
+    alloc: Global,
+    first: u64,
+    inputs: &[Input],
+    summary: Summary,
+) -> Result<Checkpoint, Refusal>
+    requires { IsSound 3 summary }
+    ensures { IfOk result (λ made. IsSound 3 (base_by made)) }
+{
+    assert!(rt; summary.floors.len() <= u32::MAX as usize);
+    assert!(rt; summary_len(&summary, LAYOUT) <= u64::from(u32::MAX));
+    assert!(rt; summary.keys.len() <= u32::MAX as usize);
+    Checkpoint::new(alloc, NodeNo::first(), first, inputs, summary)
+}
+
+/// The summary whose snapshot these bytes are.
+fn summary_of(rt: &impl Abort, alloc: Global, snapshot: &[u8]) -> Summary
+    ensures { IsSound 3 result }
+{
+    match read_summary(alloc, snapshot, 3, LAYOUT) {
+        Ok(summary) => summary,
+        Err(_) => panic!(rt; "no snapshot"),
+    }
 }
 
 /// The checkpoint of node 1 with this snapshot, which stands for these inputs too, from this number on.
@@ -156,16 +198,30 @@ fn checkpoint<R: Abort + AllocGlobal>(
 ) -> Checkpoint
     ensures { IsSound 3 (base_by result) }
 {
-    let summary = read_summary(rt.alloc(), snapshot, 3, LAYOUT).expect(rt, "a snapshot");
-    assert!(rt; summary.floors.len() <= u32::MAX as usize);
-    assert!(rt; summary_len(&summary, LAYOUT) <= u64::from(u32::MAX));
-    assert!(rt; summary.keys.len() <= u32::MAX as usize);
+    let summary = summary_of(rt, rt.alloc(), snapshot);
     let counted = summary.inputs;
-    let made = Checkpoint::new(rt.alloc(), NodeNo::first(), first, inputs, summary);
-    let made = made.expect(rt, "ample memory");
+    let made = made(rt, rt.alloc(), first, inputs, summary).expect(rt, "ample memory");
     assert!(rt; made.inputs() == inputs);
     assert!(rt; (made.base().inputs, made.cost() as usize) == (counted, snapshot.len()));
     made
+}
+
+/// Makes the checkpoint durable, which is the journal's next one.
+pub fn renews<D: Device>(
+    rt: &impl Abort,
+    journal: &mut Journal<D>,
+    checkpoint: Checkpoint,
+) -> Result<Receipt, Spoiled>
+    requires size { (member_of journal.old).n ≡ 3 }
+    requires sound { IsSound 3 (base_by checkpoint) }
+    ensures { member_of journal.new ≡ member_of journal.old }
+{
+    assert!(rt; !journal.is_spoiled());
+    assert!(rt; checkpoint.node() == journal.node());
+    assert!(rt; checkpoint.first() == journal.len());
+    assert!(rt; checkpoint.cost() <= journal.capacity());
+    assert!(rt; journal.epoch() < (1 << 40) - 1);
+    journal.checkpoint(checkpoint)
 }
 
 /// Makes the summary of this snapshot durable, which stands for these inputs too, and tells whether that succeeded.
@@ -180,17 +236,13 @@ fn takes_checkpoint<D: Device, R: Abort + AllocGlobal>(
 {
     let first = journal.len();
     let checkpoint = checkpoint(rt, first, inputs, snapshot);
-    assert!(rt; !journal.is_spoiled());
-    assert!(rt; checkpoint.node() == journal.node());
-    assert!(rt; checkpoint.first() == journal.len());
-    assert!(rt; checkpoint.cost() <= journal.capacity());
-    assert!(rt; journal.epoch() < (1 << 40) - 1);
+    let size = snapshot.len() as u64;
     let done = is_spent(
         rt,
-        journal.checkpoint(checkpoint),
+        renews(rt, journal, checkpoint),
         first,
         inputs,
-        Some(snapshot.len() as u64),
+        Some(size),
     );
     assert!(rt; journal.is_spoiled() == !done);
     done
@@ -227,16 +279,38 @@ fn does<D: Device, R: Abort + AllocGlobal>(rt: &R, journal: &mut Journal<D>, ste
     ensures { (member_of journal.new).n ≡ 3 }
 {
     match step {
-        Step::Commits(ops) => assert!(rt; commits(rt, journal, &inputs(rt, ops))),
-        Step::CommitFails(ops) => assert!(rt; !commits(rt, journal, &inputs(rt, ops))),
-        Step::Checkpoints(ops, area) => {
-            assert!(rt; takes_checkpoint(rt, journal, &inputs(rt, ops), snapshot_in(rt, area)))
-        }
-        Step::CheckpointFails(ops, area) => {
-            assert!(rt; !takes_checkpoint(rt, journal, &inputs(rt, ops), snapshot_in(rt, area)))
-        }
+        Step::Commits(ops) => assert!(rt; lasts(rt, journal, ops)),
+        Step::CommitFails(ops) => assert!(rt; !lasts(rt, journal, ops)),
+        Step::Checkpoints(ops, area) => assert!(rt; is_renewed(rt, journal, ops, area)),
+        Step::CheckpointFails(ops, area) => assert!(rt; !is_renewed(rt, journal, ops, area)),
         Step::Tells(len, room, epoch) => tells(rt, journal, (len, room, epoch)),
     }
+}
+
+/// Commits them, and tells whether that succeeded.
+fn lasts<D: Device, R: Abort + AllocGlobal>(rt: &R, journal: &mut Journal<D>, ops: &[Op]) -> bool
+    ensures { member_of journal.new ≡ member_of journal.old }
+{
+    let inputs = inputs(rt, ops);
+    let done = commits(rt, journal, &inputs);
+    drop(inputs);
+    done
+}
+
+/// Makes the summary in this area durable, which stands for these inputs too, and tells whether that succeeded.
+fn is_renewed<D: Device, R: Abort + AllocGlobal>(
+    rt: &R,
+    journal: &mut Journal<D>,
+    ops: &[Op],
+    area: &[u8],
+) -> bool
+    requires { (member_of journal.old).n ≡ 3 }
+    ensures { member_of journal.new ≡ member_of journal.old }
+{
+    let inputs = inputs(rt, ops);
+    let done = takes_checkpoint(rt, journal, &inputs, snapshot_in(rt, area));
+    drop(inputs);
+    done
 }
 
 /// The snapshot in an area that has nothing behind it: 14 bytes stand before it, and its first gate behind it.
@@ -277,7 +351,7 @@ fn reopened<D: Device + Drop, R: Abort + AllocGlobal>(rt: &R, device: D) -> (Jou
 {
     match Journal::reopen(rt.alloc(), device, NodeNo::first(), 3) {
         Ok(found) => found,
-        Err((_device, refusal)) => panic!(rt; "{refusal:?}"),
+        Err(_) => panic!(rt; "not reopened"),
     }
 }
 
@@ -291,7 +365,14 @@ fn opens_with<R: Abort + AllocGlobal>(
 ) {
     let found = (opening.layout, opening.epoch, opening.base.inputs);
     assert!(rt; found == (LAYOUT, epoch, base));
-    assert!(rt; opening.inputs.as_slice() == inputs(rt, ops).as_slice());
+    are_inputs(rt, &opening.inputs, ops);
+}
+
+/// These inputs are those of the row.
+fn are_inputs<R: Abort + AllocGlobal>(rt: &R, found: &[Input], ops: &[Op]) {
+    let wanted = inputs(rt, ops);
+    assert!(rt; found == wanted.as_slice());
+    drop(wanted);
 }
 
 /// On the device is the journal of node 1, of capacity 4,096, that tells this, and opens with a summary of so many inputs,
@@ -306,6 +387,7 @@ fn is_reopened<D: Device + Drop, R: Abort + AllocGlobal>(
     let (journal, opening) = reopened(rt, device);
     tells(rt, &journal, wanted);
     opens_with(rt, &opening, wanted.2, base, ops);
+    drop((journal, opening));
 }
 
 /// What is read of a device: so many inputs, in this epoch, or the fault.
@@ -331,14 +413,28 @@ impl Verdict {
 /// How many inputs this node of 3 finds on a device, and in which epoch.
 fn found_by(alloc: Global, device: MemDevice, node: NodeNo) -> Result<(u64, u64), Refusal> {
     match Journal::reopen(alloc, device, node, 3) {
-        Ok((journal, opening)) => Ok((journal.len(), opening.epoch)),
-        Err((_device, refusal)) => Err(refusal),
+        Ok((journal, opening)) => {
+            let found = (journal.len(), opening.epoch);
+            drop((journal, opening));
+            Ok(found)
+        }
+        Err((device, refusal)) => {
+            drop(device);
+            Err(refusal)
+        }
     }
 }
 
 /// The same of node 1.
 fn found(alloc: Global, device: MemDevice) -> Result<(u64, u64), Refusal> {
     found_by(alloc, device, NodeNo::first())
+}
+
+/// Of the first bytes of this image, which are so many, this is told.
+fn is_cut<R: Abort + AllocGlobal>(rt: &R, image: &[u8], len: usize, verdict: Verdict) {
+    assert!(rt; len <= image.len());
+    let device = device(rt, &[(0, &image[..len])]);
+    assert!(rt; found(rt.alloc(), device) == verdict.answer());
 }
 
 /// The device at which the journal is not reopened, since one call of it fails.
@@ -362,17 +458,20 @@ fn fault_is_told<R: Abort + AllocGlobal>(
     let size = device.size();
     let device = refused(rt, rt.alloc(), FuseDevice::new(device, after, true));
     assert!(rt; device.size() == size);
-    assert!(rt; told(&reopened(rt, device).0) == wanted);
+    let (journal, opening) = reopened(rt, device);
+    assert!(rt; told(&journal) == wanted);
+    drop((journal, opening));
 }
+
+/// The longest inputs.
+static LONGEST: [Op; 64] = [Op::Take(0, Note::Token("abcdefghijklmnop", 1, 1, 1)); 64];
 
 /// The device of a journal of this capacity, with so many frames of 64 of the longest inputs: its closed gate is at 72
 /// and 2,247 for each frame.
 fn with_longest<R: Abort + AllocGlobal>(rt: &R, capacity: u32, frames: usize) -> MemDevice {
     let mut journal = formatted(rt, device(rt, &[]), capacity);
-    let longest = [Op::Take(0, Note::Token("abcdefghijklmnop", 1, 1, 1)); 64];
-    let inputs = inputs(rt, &longest);
     for _ in 0..frames {
-        assert!(rt; commits(rt, &mut journal, &inputs));
+        assert!(rt; lasts(rt, &mut journal, &LONGEST));
     }
     journal.into_device()
 }

@@ -42,8 +42,9 @@ fn fail_in_turn(device: &mut FuseDevice<MemDevice>) -> [bool; 6] {
 /// The calls of a device with such a fuse fail so, and so many are counted.
 fn fails<R: Abort + AllocGlobal>(rt: &R, after: u64, once: bool, calls: [bool; 6], count: u64) {
     let mut device = FuseDevice::new(written(rt), after, once);
-    assert!(rt; fail_in_turn(&mut device) == calls, "{once} after {after}");
+    assert!(rt; fail_in_turn(&mut device) == calls);
     assert!(rt; device.failures() == count);
+    drop(device);
 }
 
 #[test]
@@ -61,7 +62,7 @@ fn one_call_fails_or_all_from_it_on(rt: HostRuntime) {
 }
 
 /// Where a fuse that is idle at first is armed, and which calls fail then.
-const ARMED: [(u64, bool, [bool; 6]); 2] = [
+static ARMED: [(u64, bool, [bool; 6]); 2] = [
     (1, true, [false, true, false, false, false, false]),
     (4, false, [false, false, false, false, true, true]),
 ];
@@ -71,17 +72,21 @@ fn an_idle_fuse_passes_until_it_is_armed(rt: HostRuntime) {
     let mut device = FuseDevice::idle(written(&rt));
     assert!(rt; fail_in_turn(&mut device) == [false; 6]);
     assert!(rt; device.failures() == 0);
-    for (after, once, calls) in ARMED {
-        device.arm(after, once);
-        assert!(rt; fail_in_turn(&mut device) == calls);
+    for (after, once, calls) in &ARMED {
+        device.arm(*after, *once);
+        assert!(rt; fail_in_turn(&mut device) == *calls);
     }
     assert!(rt; device.failures() == 3);
-    assert!(rt; device.into_inner().failures() == 0);
+    let inner = device.into_inner();
+    assert!(rt; inner.failures() == 0);
+    drop(inner);
 }
+
+static FAILS_TO_WRITE: [Step<'static>; 2] = [Step::WriteFails(3, b"XY"), Step::Holds(b"abcXY")];
 
 #[test]
 fn a_write_that_fails_is_there(rt: HostRuntime) {
-    failing(&rt, 0, &[Step::WriteFails(3, b"XY"), Step::Holds(b"abcXY")]);
+    drop(failing(&rt, 0, &FAILS_TO_WRITE));
 }
 
 #[test]
@@ -89,20 +94,25 @@ fn a_sync_that_fails_makes_nothing_stable(rt: HostRuntime) {
     let mut device = failing(&rt, 0, &[Step::SyncFails]).into_inner();
     device.crash(Tear::Old);
     assert!(rt; device.size() == 0);
+    drop(device);
 }
 
 #[test]
 fn a_read_that_fails_reads_nothing(rt: HostRuntime) {
-    let (fails, bytes) = read(&rt, &mut failing(&rt, 0, &[]), 0, 2);
-    assert!(rt; fails);
-    assert!(rt; bytes.as_slice() == [9; 2].as_slice());
+    let mut device = failing(&rt, 0, &[]);
+    let (fails, bytes) = read(&rt, &mut device, 0, 2);
+    drop(device);
+    assert!(rt; fails && bytes.as_slice() == [9; 2].as_slice());
+    drop(bytes);
 }
+
+static FAILS_TWICE: [Step<'static>; 3] = [
+    Step::WriteFails(9, b""),
+    Step::SyncFails,
+    Step::Failed(2),
+];
 
 #[test]
 fn faults_of_both_are_counted(rt: HostRuntime) {
-    failing(
-        &rt,
-        1,
-        &[Step::WriteFails(9, b""), Step::SyncFails, Step::Failed(2)],
-    );
+    drop(failing(&rt, 1, &FAILS_TWICE));
 }

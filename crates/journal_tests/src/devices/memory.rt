@@ -20,6 +20,7 @@ fn goes_through<R: Abort + AllocGlobal>(rt: &R, limit: usize, stops: &[Stop]) {
     for stop in stops {
         leaves(rt, &mut device, stop);
     }
+    drop(device);
 }
 
 /// Writes over `abcdefgh`, what is there then, and what the tear Fill(7) leaves.
@@ -56,25 +57,28 @@ static ROWS: [Row; 5] = [
 
 static SETTLED: [Step<'static>; 2] = [Step::Write(0, b"abcdefgh"), Step::Sync];
 
-#[test]
-fn what_tears_leave(rt: HostRuntime) {
-    for (writes, written, filled) in &ROWS {
-        for (tear, left) in [
-            (Tear::New, *written),
-            (Tear::Old, b"abcdefgh"),
-            (Tear::Fill(7), *filled),
-        ] {
-            let mut device = memory_device(&rt, 12, &SETTLED);
-            plays(&rt, &mut device, writes);
-            plays(&rt, &mut device, &[Step::Holds(written)]);
-            leaves(&rt, &mut device, &(&[], tear, left));
-        }
-    }
+/// Behind the writes of the row this tear leaves these bytes.
+fn is_torn<R: Abort + AllocGlobal>(rt: &R, row: &Row, tear: Tear, left: &[u8]) {
+    let mut device = memory_device(rt, 12, &SETTLED);
+    plays(rt, &mut device, row.0);
+    plays(rt, &mut device, &[Step::Holds(row.1)]);
+    device.crash(tear);
+    plays(rt, &mut device, &[Step::Holds(left)]);
+    drop(device);
 }
 
 #[test]
-fn a_write_past_the_limit_is_a_fault(rt: HostRuntime) {
-    let steps: &[Step<'static>] = &[
+fn what_tears_leave(rt: HostRuntime) {
+    for row in &ROWS {
+        is_torn(&rt, row, Tear::New, row.1);
+        is_torn(&rt, row, Tear::Old, b"abcdefgh");
+        is_torn(&rt, row, Tear::Fill(7), row.2);
+    }
+}
+
+/// A write that failed has left its range unsynced.
+static AT_THE_LIMIT: [Stop; 1] = [(
+    &[
         Step::Write(0, b"abcdefgh"),
         Step::Sync,
         Step::Write(8, b"1234"),
@@ -84,26 +88,28 @@ fn a_write_past_the_limit_is_a_fault(rt: HostRuntime) {
         Step::WriteFails(u64::MAX, b"x"),
         Step::Failed(3),
         Step::Holds(b"abcdefgh1234"),
-    ];
-    // A write that failed has left its range unsynced.
-    let left = b"abcdef\x07\x07\x07\x07\x07\x07";
-    goes_through(&rt, 12, &[(steps, Tear::Fill(7), left)]);
+    ],
+    Tear::Fill(7),
+    b"abcdef\x07\x07\x07\x07\x07\x07",
+)];
+
+#[test]
+fn a_write_past_the_limit_is_a_fault(rt: HostRuntime) {
+    goes_through(&rt, 12, &AT_THE_LIMIT);
 }
+
+static PAST_THE_END: [Step<'static>; 6] = [
+    Step::Write(0, b"abcdefgh"),
+    Step::Sync,
+    Step::Reads(6, b"gh\x00\x00"),
+    Step::Reads(8, b"\x00\x00\x00\x00"),
+    Step::ReadFails(9, 4),
+    Step::Failed(1),
+];
 
 #[test]
 fn past_the_end_are_zeros(rt: HostRuntime) {
-    memory_device(
-        &rt,
-        12,
-        &[
-            Step::Write(0, b"abcdefgh"),
-            Step::Sync,
-            Step::Reads(6, b"gh\x00\x00"),
-            Step::Reads(8, b"\x00\x00\x00\x00"),
-            Step::ReadFails(9, 4),
-            Step::Failed(1),
-        ],
-    );
+    drop(memory_device(&rt, 12, &PAST_THE_END));
 }
 
 static STOPS: [Stop; 5] = [
@@ -131,8 +137,9 @@ fn only_a_sync_makes_stable(rt: HostRuntime) {
     goes_through(&rt, 12, &STOPS);
 }
 
+static AT_FIRST: [Stop; 1] = [(&[Step::Holds(b""), Step::Write(0, b"abc")], Tear::Old, b"")];
+
 #[test]
 fn nothing_is_stable_at_first(rt: HostRuntime) {
-    let steps: &[Step<'static>] = &[Step::Holds(b""), Step::Write(0, b"abc")];
-    goes_through(&rt, 3, &[(steps, Tear::Old, b"")]);
+    goes_through(&rt, 3, &AT_FIRST);
 }

@@ -8,6 +8,9 @@ const THIRD: [u8; 70] = [
     1, 0, 0, 0, 10, 0, 0, 0, 0, 0,
 ];
 
+/// The same, for what takes a reference to it.
+static THIRD_AREA: [u8; 70] = THIRD;
+
 static WRITES_B: [Step; 3] = [
     Step::Commits(&[STOOD]),
     Step::Checkpoints(&[], &SECOND),
@@ -18,8 +21,12 @@ static WRITES_B: [Step; 3] = [
 fn a_checkpoint_writes_the_other_area(rt: HostRuntime) {
     let mut journal = fresh(&rt);
     plays(&rt, &mut journal, &WRITES_B);
-    let parts: [(u64, &[u8]); 2] = [(0, &COMMITTED), (AREA_B, &SECOND)];
-    let device = stable(&rt, journal, 4211, &parts);
+    let device = stable(
+        &rt,
+        journal,
+        4211,
+        &[(0, &COMMITTED), (AREA_B, &SECOND_AREA)],
+    );
     is_reopened(&rt, device, (1, 4027, 2), 1, &[]);
 }
 
@@ -37,7 +44,11 @@ static IN_TURNS: [Step; 6] = [
 fn checkpoints_take_turns(rt: HostRuntime) {
     let mut journal = fresh(&rt);
     plays(&rt, &mut journal, &IN_TURNS);
-    let parts: [(u64, &[u8]); 2] = [(16, &THIRD), (AREA_B, &SECOND[..83])];
-    let device = stable(&rt, journal, 4227, &parts);
+    let device = stable(
+        &rt,
+        journal,
+        4227,
+        &[(16, &THIRD_AREA), (AREA_B, &SECOND_AREA[..83])],
+    );
     is_reopened(&rt, device, (2, 4041, 3), 2, &[]);
 }

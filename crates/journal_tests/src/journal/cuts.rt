@@ -6,6 +6,22 @@ fn read_of<R: Abort + AllocGlobal>(rt: &R, puts: &[(u64, &[u8])]) -> Result<(u64
     found(rt.alloc(), device(rt, puts))
 }
 
+/// How many inputs were read.
+fn inputs_of(read: Result<(u64, u64), Refusal>) -> Result<u64, Refusal> {
+    match read {
+        Ok((inputs, _)) => Ok(inputs),
+        Err(refusal) => Err(refusal),
+    }
+}
+
+/// In which epoch they were read.
+fn epoch_of(read: Result<(u64, u64), Refusal>) -> Result<u64, Refusal> {
+    match read {
+        Ok((_, epoch)) => Ok(epoch),
+        Err(refusal) => Err(refusal),
+    }
+}
+
 /// How many inputs are read of so many bytes of area A, or the fault. The first frame stands from 72 on and takes 20
 /// bytes, the second from 92 on and takes 16, and the closed gate is at 108.
 fn in_area_a(len: usize) -> Result<u64, Refusal> {
@@ -29,9 +45,10 @@ fn two_frames_cut_at_every_length(rt: HostRuntime) {
     assert!(rt; device.size() == 109);
     let mut image = [0; 109];
     assert!(rt; device.read_at(0, &mut image).is_ok());
+    drop(device);
     for len in 0..110 {
         let read = read_of(&rt, &[(0, &image[..len])]);
-        assert!(rt; read.map(|read| read.0) == in_area_a(len), "{len}");
+        assert!(rt; inputs_of(read) == in_area_a(len));
     }
 }
 
@@ -49,7 +66,7 @@ fn in_area_b(len: usize) -> Result<u64, Refusal> {
 #[test]
 fn a_second_area_cut_at_every_length(rt: HostRuntime) {
     for len in 0..85 {
-        let read = read_of(&rt, &[(0, &COMMITTED), (AREA_B, &SECOND[..len])]);
-        assert!(rt; read.map(|read| read.1) == in_area_b(len), "{len}");
+        let read = read_of(&rt, &[(0, &COMMITTED), (AREA_B, &SECOND_AREA[..len])]);
+        assert!(rt; epoch_of(read) == in_area_b(len));
     }
 }

@@ -30,7 +30,7 @@ fn each_node_reads<R: Abort + AllocGlobal>(rt: &R, image: &[u8], first: Verdict,
         let node = NodeNo::new(number).expect(rt, "a node");
         let found = found_by(rt.alloc(), device(rt, &[(0, image)]), node);
         let wanted = if number == 1 { first } else { other };
-        assert!(rt; found == wanted.answer(), "{number}");
+        assert!(rt; found == wanted.answer());
     }
 }
 

@@ -139,7 +139,11 @@ fn each_image_has_its_answer(rt: HostRuntime) {
         is_read(&rt, device(&rt, &[(0, &COMMITTED)]), row);
     }
     for row in &TWO_AREAS {
-        is_read(&rt, device(&rt, &[(0, &COMMITTED), (AREA_B, &SECOND)]), row);
+        is_read(
+            &rt,
+            device(&rt, &[(0, &COMMITTED), (AREA_B, &SECOND_AREA)]),
+            row,
+        );
     }
     // Bytes behind the closed gate mean nothing.
     is_read(
@@ -149,6 +153,13 @@ fn each_image_has_its_answer(rt: HostRuntime) {
     );
 }
 
+/// Bytes of the capacity, and what is told of the frames then.
+static CAPACITIES: [([u8; 2], Verdict); 3] = [
+    ([0x11, 0xB8], Reads(128, 1)),
+    ([0x11, 0xB7], Damaged(16)),
+    ([0x10, 0], Damaged(16)),
+];
+
 #[test]
 fn frames_end_within_the_capacity(rt: HostRuntime) {
     // Two frames of 64 of the longest inputs: the closed gate is at 72 + 2 * 2,247, which is 30 behind 4,536.
@@ -156,12 +167,9 @@ fn frames_end_within_the_capacity(rt: HostRuntime) {
     assert!(rt; ends.size() == 4567);
     let mut image = [0; 4567];
     assert!(rt; ends.read_at(0, &mut image).is_ok());
-    for (capacity, read) in [
-        ([0x11, 0xB8], Reads(128, 1)),
-        ([0x11, 0xB7], Damaged(16)),
-        ([0x10, 0], Damaged(16)),
-    ] {
-        let device = device(&rt, &[(0, &image), (12, &capacity)]);
+    drop(ends);
+    for (capacity, read) in &CAPACITIES {
+        let device = device(&rt, &[(0, &image), (12, capacity)]);
         assert!(rt; found(rt.alloc(), device) == read.answer());
     }
 }
@@ -170,7 +178,7 @@ fn frames_end_within_the_capacity(rt: HostRuntime) {
 fn a_device_that_fails_is_told(rt: HostRuntime) {
     // The calls are a sync and reads of the header, of both heads and of the area.
     for after in 0..5 {
-        let device = device(&rt, &[(0, &COMMITTED), (AREA_B, &SECOND)]);
+        let device = device(&rt, &[(0, &COMMITTED), (AREA_B, &SECOND_AREA)]);
         fault_is_told(&rt, device, after, (1, 4027, 2));
     }
 }

@@ -72,9 +72,9 @@ fn read(reader: AreaReader) -> Answer
 
 #[test]
 fn one_commit_in_pieces(rt: HostRuntime) {
-    for size in [1, 2, 77] {
-        let (area, _) = fed(&rt, LAYOUT, 16, &COMMITTED[16..], &[size]);
-        assert!(rt; area == Ok((1, 92)), "{size}");
+    for size in &[1, 2, 77] {
+        let (area, _) = fed(&rt, LAYOUT, 16, &COMMITTED[16..], &[*size]);
+        assert!(rt; area == Ok((1, 92)));
     }
 }
 
@@ -82,7 +82,7 @@ fn one_commit_in_pieces(rt: HostRuntime) {
 fn refused_growths(rt: HostRuntime) {
     let (area, _) = fed(&rt, LAYOUT, 16, &COMMITTED[16..], &[7]);
     assert!(rt; area == Ok((1, 92)));
-    let (area, _) = fed(&rt, LAYOUT, AREA_B, &SECOND, &[7]);
+    let (area, _) = fed(&rt, LAYOUT, AREA_B, &SECOND_AREA, &[7]);
     assert!(rt; area == Ok((1, AREA_B + 83)));
 }
 
@@ -136,8 +136,23 @@ fn kept_of(rt: &(impl Abort + AllocGlobal), area: &[u8], first: usize) -> usize
 {
     let mut reader = AreaReader::new(rt.alloc(), 16, LAYOUT, 3);
     goes_on(rt, &mut reader, &area[..first.min(area.len())]);
-    reader.kept_len()
+    let kept = reader.kept_len();
+    drop(reader);
+    kept
 }
+
+/// How many bytes of an area are there, and how many of them are kept.
+static KEPT: [(usize, usize); 9] = [
+    (13, 13),
+    (14, 0),
+    (51, 37),
+    (52, 0),
+    (55, 3),
+    (56, 0),
+    (2302, 2246),
+    (2303, 0),
+    (2304, 0),
+];
 
 #[test]
 fn the_bytes_that_are_kept(rt: HostRuntime) {
@@ -145,18 +160,9 @@ fn the_bytes_that_are_kept(rt: HostRuntime) {
     let mut device = with_longest(&rt, 6000, 1);
     let mut image = [0; 2320];
     assert!(rt; device.read_at(0, &mut image).is_ok());
-    for (first, kept) in [
-        (13, 13),
-        (14, 0),
-        (51, 37),
-        (52, 0),
-        (55, 3),
-        (56, 0),
-        (2302, 2246),
-        (2303, 0),
-        (2304, 0),
-    ] {
-        assert!(rt; kept_of(&rt, &image[16..], first) == kept);
+    drop(device);
+    for (first, kept) in &KEPT {
+        assert!(rt; kept_of(&rt, &image[16..], *first) == *kept);
     }
 }
 
@@ -167,7 +173,7 @@ pub fn in_pieces(rt: &(impl Abort + AllocGlobal), layout: u8, offset: u64, area:
     let (whole, _) = fed(rt, layout, offset, area, &[5000]);
     for size in [1, 2, 3, 7, 4096] {
         let (cut, _) = fed(rt, layout, offset, area, &[size]);
-        assert!(rt; cut == whole, "{size}");
+        assert!(rt; cut == whole);
     }
     whole
 }
@@ -205,7 +211,7 @@ pub fn one_area(rt: &(impl Abort + AllocGlobal), image: &mut [u8], row: &Row)
 fn two_areas(rt: &(impl Abort + AllocGlobal), row: &Row) {
     let mut image = [0; 4211];
     image[..93].copy_from_slice(&COMMITTED);
-    image[4127..].copy_from_slice(&SECOND);
+    image[4127..].copy_from_slice(&SECOND_AREA);
     change(&mut image, row.0);
     let a = count(in_pieces(rt, LAYOUT, 16, &image[16..]));
     let b = count(in_pieces(rt, LAYOUT, AREA_B, &image[4127..]));
@@ -267,7 +273,7 @@ impl Random {
 /// Area B with two frames behind its snapshot: of a Stand, and of an Acked of 1.
 fn two_frames() -> [u8; 120] {
     let mut area = [0; 120];
-    area[..83].copy_from_slice(&SECOND[..83]);
+    area[..83].copy_from_slice(&SECOND_AREA[..83]);
     area[83..103].copy_from_slice(&COMMITTED[72..92]);
     area[103..119].copy_from_slice(&[1, 0, 1, 0, 0, 0, 9, 4, 0, 0, 0, 0, 0, 0, 0, 1]);
     area

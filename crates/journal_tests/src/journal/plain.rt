@@ -30,6 +30,14 @@ static CHANGED: [Row; 14] = [
     (&[(22, 9), (23, 5)], Damaged(16)),
 ];
 
+/// How many bytes are there of it, and what is told of them.
+static CUT: [(usize, Verdict); 4] = [
+    (36, Damaged(36)),
+    (35, Damaged(16)),
+    (17, Damaged(16)),
+    (16, NotFormatted),
+];
+
 /// Beside area B, which counts, or does not.
 static BESIDE: [Row; 2] = [(&[], Reads(1, 2)), (&[(4127, 0)], Reads(1, 0))];
 
@@ -38,20 +46,21 @@ fn frames_alone_have_their_answer(rt: HostRuntime) {
     for row in &CHANGED {
         is_read(&rt, device(&rt, &[(0, &PLAIN)]), row);
     }
-    for (len, read) in [
-        (36, Damaged(36)),
-        (35, Damaged(16)),
-        (17, Damaged(16)),
-        (16, NotFormatted),
-    ] {
-        let cut = device(&rt, &[(0, &PLAIN[..len])]);
-        assert!(rt; found(rt.alloc(), cut) == read.answer(), "{len}");
+    for (len, verdict) in &CUT {
+        is_cut(&rt, &PLAIN, *len, *verdict);
     }
     for row in &BESIDE {
-        let both = device(&rt, &[(0, &PLAIN), (AREA_B, &SECOND)]);
+        let both = device(&rt, &[(0, &PLAIN), (AREA_B, &SECOND_AREA)]);
         is_read(&rt, both, row);
     }
 }
+
+/// Bytes of the capacity, and what is told of the frames then.
+static CAPACITIES: [([u8; 2], Verdict); 3] = [
+    ([0x11, 0x80], Reads(128, 0)),
+    ([0x11, 0x7F], Damaged(16)),
+    ([0x10, 0], Damaged(16)),
+];
 
 #[test]
 fn frames_alone_end_within_the_capacity(rt: HostRuntime) {
@@ -59,12 +68,9 @@ fn frames_alone_end_within_the_capacity(rt: HostRuntime) {
     let mut ends = with_longest(&rt, 6000, 2);
     let mut frames = [0; 4495];
     assert!(rt; ends.read_at(72, &mut frames).is_ok());
-    for (capacity, read) in [
-        ([0x11, 0x80], Reads(128, 0)),
-        ([0x11, 0x7F], Damaged(16)),
-        ([0x10, 0], Damaged(16)),
-    ] {
-        let device = device(&rt, &[(0, &PLAIN[..16]), (16, &frames), (12, &capacity)]);
+    drop(ends);
+    for (capacity, read) in &CAPACITIES {
+        let device = device(&rt, &[(0, &PLAIN[..16]), (16, &frames), (12, capacity)]);
         assert!(rt; found(rt.alloc(), device) == read.answer());
     }
 }
@@ -84,8 +90,11 @@ const FIRST: [u8; 70] = [
     1, 0, 0, 0, 10, 0, 0, 0, 0, 0,
 ];
 
+/// The same, for what takes a reference to it.
+static FIRST_AREA: [u8; 70] = FIRST;
+
 /// A further frame, the Acked, behind the first gate that was closed.
-pub const FURTHER: [u8; 17] = [1, 0, 1, 0, 0, 0, 9, 4, 0, 0, 0, 0, 0, 0, 0, 1, 0];
+pub static FURTHER: [u8; 17] = [1, 0, 1, 0, 0, 0, 9, 4, 0, 0, 0, 0, 0, 0, 0, 1, 0];
 
 static GOES_ON: [Step; 3] = [
     Step::Tells(1, 4076, 0),
@@ -102,12 +111,11 @@ fn the_first_checkpoint_makes_an_area(rt: HostRuntime) {
     assert!(rt; (opening.layout, opening.epoch, opening.base.inputs) == (1, 0, 0));
     drop(opening);
     plays(&rt, &mut journal, &GOES_ON);
-    let parts: [(u64, &[u8]); 2] = [(0, &PLAIN[..36]), (36, &FURTHER)];
-    let device = stable(&rt, journal, 53, &parts);
+    let device = stable(&rt, journal, 53, &[(0, &PLAIN[..36]), (36, &FURTHER)]);
     let (mut journal, opening) = reopened(&rt, FuseDevice::idle(device));
     drop(opening);
     plays(&rt, &mut journal, &MAKES_AN_AREA);
-    let parts: [(u64, &[u8]); 3] = [(0, &PLAIN[..36]), (36, &FURTHER), (AREA_B, &FIRST)];
-    let device = stable(&rt, journal, 4197, &parts);
+    let mut device = stable(&rt, journal, 4197, &[(0, &PLAIN[..36]), (36, &FURTHER)]);
+    holds(&rt, &mut device, &[(AREA_B, &FIRST_AREA)]);
     is_reopened(&rt, device, (2, 4041, 1), 2, &[]);
 }

@@ -10,7 +10,7 @@ use super::*;
 const RETIRED: Op = Op::Retire("red", 5);
 
 /// A frame of the Retire behind an open gate, and the next gate: its record has 9 bytes, and costs 16.
-const FRAME: [u8; 17] = [1, 0, 1, 0, 0, 0, 9, 5, 3, 0x72, 0x65, 0x64, 0, 0, 0, 5, 0];
+static FRAME: [u8; 17] = [1, 0, 1, 0, 0, 0, 9, 5, 3, 0x72, 0x65, 0x64, 0, 0, 0, 5, 0];
 
 static RETIRES: [Step; 2] = [Step::Commits(&[RETIRED]), Step::Tells(1, 4038, 1)];
 
@@ -37,13 +37,13 @@ fn retires_among_other_inputs(rt: HostRuntime) {
 }
 
 /// The shortest record, of 7 bytes, which costs 14.
-const SHORTEST: [Op; 64] = [Op::Retire("r", 1); 64];
+static SHORTEST: [Op; 64] = [Op::Retire("r", 1); 64];
 
 #[test]
 fn frames_of_the_shortest_inputs(rt: HostRuntime) {
     let mut journal = fresh(&rt);
     for _ in 0..4 {
-        assert!(rt; commits(&rt, &mut journal, &inputs(&rt, &SHORTEST)));
+        assert!(rt; lasts(&rt, &mut journal, &SHORTEST));
     }
     assert!(rt; told(&journal) == (256, 470, 1));
     let mut device = left(journal, Tear::Old);
@@ -61,18 +61,12 @@ fn a_retire_cut_at_each_byte(rt: HostRuntime) {
     for len in 1..17 {
         let cut = device(&rt, &[(0, &FRESH[..72]), (72, &FRAME[..len])]);
         let at = if len < 16 { 72 } else { 88 };
-        assert!(rt;
-            found(rt.alloc(), cut) == Err(Refusal::Damaged(at)),
-            "{len}"
-        );
+        assert!(rt; found(rt.alloc(), cut) == Err(Refusal::Damaged(at)));
     }
     // Cut by the length of its frame.
     for len in 0..9 {
         let cut = device(&rt, &[(0, &FRESH[..72]), (72, &FRAME), (78, &[len])]);
-        assert!(rt;
-            found(rt.alloc(), cut) == Err(Refusal::Damaged(72)),
-            "{len}"
-        );
+        assert!(rt; found(rt.alloc(), cut) == Err(Refusal::Damaged(72)));
     }
 }
 
@@ -102,16 +96,19 @@ fn suits(
     retires: bool,
 ) {
     assert!(rt; journal.layout() == layout);
-    for others in [&[] as &[Op], &[STOOD, ACKED]] {
-        assert!(rt; journal.suits(&inputs(rt, others)));
-    }
-    for among in [
-        &[RETIRED] as &[Op],
-        &[STOOD, ACKED, RETIRED],
-        &[RETIRED, STOOD],
-    ] {
-        assert!(rt; journal.suits(&inputs(rt, among)) == retires);
-    }
+    assert!(rt; may_hold(rt, journal, &[]));
+    assert!(rt; may_hold(rt, journal, &[STOOD, ACKED]));
+    assert!(rt; may_hold(rt, journal, &[RETIRED]) == retires);
+    assert!(rt; may_hold(rt, journal, &[STOOD, ACKED, RETIRED]) == retires);
+    assert!(rt; may_hold(rt, journal, &[RETIRED, STOOD]) == retires);
+}
+
+/// Whether the journal's area in use may hold these inputs.
+fn may_hold(rt: &(impl Abort + AllocGlobal), journal: &Journal<impl Device>, ops: &[Op]) -> bool {
+    let inputs = inputs(rt, ops);
+    let suits = journal.suits(&inputs);
+    drop(inputs);
+    suits
 }
 
 const GOES_ON: Step = Step::Commits(&[ACKED]);
@@ -120,23 +117,28 @@ const GIVES_UP: Step = Step::Commits(&[RETIRED]);
 
 const RENEWS: Step = Step::Checkpoints(&[], &BEHIND);
 
+/// The journal on this image, whose area is of this layout, takes a Retire once a checkpoint was made.
+fn suits_at_last(rt: &(impl Abort + AllocGlobal), image: &[u8], layout: u8) {
+    let begins = FuseDevice::idle(device(rt, &[(0, image)]));
+    let (mut journal, opening) = reopened(rt, begins);
+    drop(opening);
+    suits(rt, &journal, layout, false);
+    does(rt, &mut journal, GOES_ON);
+    suits(rt, &journal, layout, false);
+    does(rt, &mut journal, RENEWS);
+    suits(rt, &journal, 3, true);
+    does(rt, &mut journal, GIVES_UP);
+    let (journal, opening) = reopened(rt, left(journal, Tear::Old));
+    assert!(rt; (opening.layout, journal.layout()) == (3, 3));
+    are_inputs(rt, &opening.inputs, &[RETIRED]);
+    drop((journal, opening));
+}
+
 #[test]
 fn an_earlier_layout_suits_no_retire_until_a_checkpoint(rt: HostRuntime) {
-    suits(&rt, &fresh(&rt), 3, true);
-    let images: [(&[u8], u8); 2] = [(&PLAIN, 1), (&EARLIER, 2)];
-    for (image, layout) in images {
-        let begins = FuseDevice::idle(device(&rt, &[(0, image)]));
-        let (mut journal, opening) = reopened(&rt, begins);
-        drop(opening);
-        suits(&rt, &journal, layout, false);
-        does(&rt, &mut journal, GOES_ON);
-        suits(&rt, &journal, layout, false);
-        does(&rt, &mut journal, RENEWS);
-        suits(&rt, &journal, 3, true);
-        does(&rt, &mut journal, GIVES_UP);
-        let (journal, opening) = reopened(&rt, left(journal, Tear::Old));
-        assert!(rt; (opening.layout, journal.layout()) == (3, 3));
-        assert!(rt; opening.inputs.as_slice() == inputs(&rt, &[RETIRED]).as_slice());
-        drop((journal, opening));
-    }
+    let new = fresh(&rt);
+    suits(&rt, &new, 3, true);
+    drop(new);
+    suits_at_last(&rt, &PLAIN, 1);
+    suits_at_last(&rt, &EARLIER, 2);
 }
