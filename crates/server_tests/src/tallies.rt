@@ -186,8 +186,8 @@ fn token(rt: &impl Abort) -> Msg {
 }
 
 /// What landed has this message too, as the one of that number.
-fn carries(landed: &mut Landed, no: u64, msg: Msg) -> Result<(), AllocError> {
-    landed.packets.push(Packet::Carry { no, msg })?;
+fn carries(landed: &mut Landed, no: u64, msg: &Msg) -> Result<(), AllocError> {
+    landed.packets.push(Packet::Carry { no, msg: *msg })?;
     Ok(())
 }
 
@@ -206,8 +206,8 @@ fn letters_wait_at_the_node_that_they_were_sent_to(rt: HostRuntime) -> Result<()
     let (post, _inboxes) = Post::new(rt.alloc(), 3)?;
     let mut landed = Landed::new(rt.alloc());
     let msg: Msg = token(&rt);
-    carries(&mut landed, 0, msg)?;
-    carries(&mut landed, 1, msg)?;
+    carries(&mut landed, 0, &msg)?;
+    carries(&mut landed, 1, &msg)?;
     // for a credit nobody waits
     landed.packets.push(Packet::Credit { upto: 1 })?;
     for index in 0..3 {
