@@ -1,4 +1,8 @@
 // A row, line by line.
+ghost use Rattle.std.specs.Prelude.{◌≡◌, ◌||◌, codes, nat_eq};
+ghost use Rattle.std.specs.List.{starts_with};
+ghost use Rattle.std.specs.Str.{bytes_eq};
+
 use crate::told::{told_by_settings, told_by_words};
 use row_player::{Player, add_line, add_printed};
 use std::alloc::{AllocError, Global};
@@ -16,7 +20,9 @@ impl Player for Row {
 }
 
 /// Whether the line is words of `ringd`.
-fn is_words(line: &[u8]) -> bool {
+fn is_words(line: &[u8]) -> bool
+    ensures { result ≡ (bytes_eq line.now (codes "ringd") || starts_with nat_eq line.now (codes "ringd ")) }
+{
     line == b"ringd".as_slice() || line.starts_with(b"ringd ")
 }
 
