@@ -46,19 +46,20 @@ type NodeStatus struct {
 
 // A JournalStatus is what a node's journal comes to. docs/OPERATING.md says what the numbers mean, here and below.
 type JournalStatus struct {
-	Batches     int64 `json:"batches"`
-	Capacity    int64 `json:"capacity"`
-	Checkpoints int64 `json:"checkpoints"`
-	Durable     int64 `json:"durable"`
-	Epoch       int64 `json:"epoch"`
-	Inputs      int64 `json:"inputs"`
-	Layout      int64 `json:"layout"`
-	Refused     int64 `json:"refused"`
-	Renewable   bool  `json:"renewable"`
-	Snapshot    int64 `json:"snapshot"`
-	Syncs       int64 `json:"syncs"`
-	Used        int64 `json:"used"`
-	Writing     int64 `json:"writing"`
+	Batches       int64 `json:"batches"`
+	Capacity      int64 `json:"capacity"`
+	CheckpointAge int64 `json:"checkpoint_age"`
+	Checkpoints   int64 `json:"checkpoints"`
+	Durable       int64 `json:"durable"`
+	Epoch         int64 `json:"epoch"`
+	Inputs        int64 `json:"inputs"`
+	Layout        int64 `json:"layout"`
+	Refused       int64 `json:"refused"`
+	Renewable     bool  `json:"renewable"`
+	Snapshot      int64 `json:"snapshot"`
+	Syncs         int64 `json:"syncs"`
+	Used          int64 `json:"used"`
+	Writing       int64 `json:"writing"`
 }
 
 // A MessagesStatus is what a node's messages come to.

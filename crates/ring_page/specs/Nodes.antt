@@ -1,9 +1,11 @@
 -- What is told of each node, in the table and in the picture.
-use Rattle.std.specs.Prelude.{ℕ, ◌-◌, ◌*◌, ◌/◌, max, List, ◌++◌, length, codes}
+use Rattle.std.specs.Prelude.{ℕ, ◌==◌, if◌then◌else◌, ◌-◌, ◌*◌, ◌/◌, max, List, ◌++◌, length, codes}
 use Rattle.std.specs.Fmt.{decimal}
 use Rattle.std.specs.List.{flat_map}
+use Rattle.ring_records.specs.declared.decision.Decision.{Decision}
 use Rattle.ring_status.specs.Data.{condition_text}
 use Rattle.ring_status.specs.declared.values.NodeStatus.{NodeStatus}
+use Rattle.ring_page.specs.Escaped.{escaped}
 
 -- ---- the table
 
@@ -23,21 +25,27 @@ room_told used capacity =
     codes "<td><meter max=\"" ++ (decimal capacity ++ (codes "\" value=\"" ++ (decimal used ++ (codes "\"></meter> "
     ++ (decimal used ++ (codes " of " ++ (decimal capacity ++ codes "</td>\n")))))))
 
--- the messages that wait, the doors with a session, the Stands that it still takes, and how long its disk has been busy
-unfoldable pub work_told : ℕ → ℕ → ℕ → ℕ → ℕ → List ℕ
-work_told waiting busy doors left writing =
+-- the messages that wait, the doors with a session, and the Stands that it still takes
+unfoldable pub work_told : ℕ → ℕ → ℕ → ℕ → List ℕ
+work_told waiting busy doors left =
     codes "<td>" ++ (decimal waiting ++ (codes "</td><td>" ++ (decimal busy ++ (codes " of " ++ (decimal doors
-    ++ (codes "</td><td>" ++ (decimal left ++ (codes "</td><td>" ++ (decimal writing ++ codes " s</td></tr>\n")))))))))
+    ++ (codes "</td><td>" ++ (decimal left ++ codes "</td>\n")))))))
+
+-- how old its last checkpoint is, and how long its disk has been busy
+unfoldable pub disk_told : ℕ → ℕ → List ℕ
+disk_told age writing =
+    codes "<td>" ++ (decimal age ++ (codes " s ago</td><td>" ++ (decimal writing ++ codes " s</td></tr>\n")))
 
 abbrev pub row : NodeStatus → List ℕ
 row node =
     who (condition_text node.condition) node.place.node node.place.port
     ++ inputs_told node.held.shown.inputs node.held.shown.durable
     ++ room_told node.held.used node.held.capacity
-    ++ work_told node.letters.count node.counts.busy node.place.doors node.stands_left node.writing
+    ++ work_told node.letters.count node.counts.busy node.place.doors node.stands_left
+    ++ disk_told node.checkpoint_age node.writing
 
 unfoldable pub table_start : List ℕ
-table_start = codes "<table>\n<tr><th>node</th><th>port</th><th>state</th><th>inputs</th><th>durable</th><th>bytes used</th><th>messages waiting</th><th>doors busy</th><th>Stands left</th><th>writing</th></tr>\n"
+table_start = codes "<table>\n<tr><th>node</th><th>port</th><th>state</th><th>inputs</th><th>durable</th><th>bytes used</th><th>messages waiting</th><th>doors busy</th><th>Stands left</th><th>last checkpoint</th><th>writing</th></tr>\n"
 
 unfoldable pub table_end : List ℕ
 table_end = codes "</table>\n"
@@ -73,14 +81,33 @@ room_drawn used capacity =
 unfoldable pub words_drawn : ℕ → List ℕ → ℕ → List ℕ
 words_drawn node state waiting =
     codes "<text>" ++ (decimal node ++ (codes "</text><text y=\"12\">" ++ (state ++ (codes "</text><text y=\"38\">" ++ (decimal waiting
-    ++ codes " waiting</text></g>\n")))))
+    ++ codes " waiting</text>\n")))))
 
-abbrev pub drawn : ℕ → NodeStatus → List ℕ
-drawn count node =
+-- what stands beside it where a pointer is: its doors with a session, how old its last checkpoint is, and the groups that it leads
+unfoldable pub beside_drawn : ℕ → ℕ → ℕ → List ℕ
+beside_drawn busy doors age =
+    codes "<title>" ++ (decimal busy ++ (codes " of " ++ (decimal doors ++ (codes " doors busy, last checkpoint " ++ (decimal age
+    ++ codes " s ago, leads:")))))
+
+abbrev pub lead_drawn : ℕ → Decision → List ℕ
+lead_drawn node lead = if (lead.leader).node == node then codes " " ++ escaped (lead.key).group else []
+
+unfoldable pub node_end : List ℕ
+node_end = codes "</title></g>\n"
+
+abbrev pub shape_drawn : ℕ → NodeStatus → List ℕ
+shape_drawn count node =
     way_drawn (turn node.place.node count) (180 / max count 1)
     ++ place_drawn (turn node.place.node count) (condition_text node.condition)
     ++ room_drawn node.held.used node.held.capacity
     ++ words_drawn node.place.node (condition_text node.condition) node.letters.count
+
+abbrev pub told_drawn : List Decision → NodeStatus → List ℕ
+told_drawn leads node =
+    beside_drawn node.counts.busy node.place.doors node.checkpoint_age ++ flat_map (lead_drawn node.place.node) leads ++ node_end
+
+abbrev pub drawn : ℕ → List Decision → NodeStatus → List ℕ
+drawn count leads node = shape_drawn count node ++ told_drawn leads node
 
 unfoldable pub picture_start : List ℕ
 picture_start = codes "<svg viewBox=\"-230 -230 460 460\" width=\"460\" height=\"460\" role=\"img\" aria-label=\"The ring, as in the table\">\n<circle class=\"way\" r=\"180\"/>\n"
@@ -88,5 +115,5 @@ picture_start = codes "<svg viewBox=\"-230 -230 460 460\" width=\"460\" height=\
 unfoldable pub picture_end : List ℕ
 picture_end = codes "</svg>\n"
 
-abbrev pub picture : List NodeStatus → List ℕ
-picture nodes = picture_start ++ flat_map (drawn (length nodes)) nodes ++ picture_end
+abbrev pub picture : List NodeStatus → List Decision → List ℕ
+picture nodes leads = picture_start ++ flat_map (drawn (length nodes) leads) nodes ++ picture_end

@@ -37,7 +37,7 @@ top ring now =
     start_of (ring.dir).now ++ program_told (ring.version).now ring.started now ++ health_told (ring.nodes).now (ring.doorless).now
 
 abbrev pub bottom : List NodeStatus → List Decision → Bool → List ℕ
-bottom nodes leads more = picture nodes ++ table nodes ++ leaders leads more ++ end
+bottom nodes leads more = picture nodes leads ++ table nodes ++ leaders leads more ++ end
 
 -- the ring in so many seconds of Unix time, with a page of leaders, behind which there may be more
 unfoldable pub ring_body : RingStatus → ℕ → List Decision → Bool → List ℕ

@@ -104,7 +104,7 @@ fn print_bottom(
 ) -> Result<(), AllocError>
     ensures { OnOk result (string_bytes out.new ≡ string_bytes out.old ++ bottom nodes.now leads.now more) }
 {
-    print_picture(out, nodes)?;
+    print_picture(out, nodes, leads)?;
     print_table(out, nodes)?;
     print_leaders(out, leads, more)?;
     print_end(out)

@@ -1,10 +1,12 @@
 // A picture of the ring.
-ghost use Rattle.std.specs.Prelude.{◌≡◌, ◌++◌, ◌/◌, max, length, OnOk, string_bytes};
+ghost use Rattle.std.specs.Prelude.{◌≡◌, ◌++◌, ◌/◌, max, length, OnOk, codes, string_bytes};
 ghost use Rattle.std.specs.List.{flat_map};
-ghost use Rattle.ring_page.specs.Nodes.{drawn, picture, picture_end, picture_start, place_drawn, room_drawn, turn, way_drawn, words_drawn};
+ghost use Rattle.ring_page.specs.Escaped.{escaped};
+ghost use Rattle.ring_page.specs.Nodes.{beside_drawn, drawn, lead_drawn, node_end, picture, picture_end, picture_start, place_drawn, room_drawn, shape_drawn, told_drawn, turn, way_drawn, words_drawn};
 
-use ring_records::NodeNo;
-use ring_status::{NodeStatus, condition_text};
+use crate::escape::push_escaped;
+use ring_records::{Decision, NodeNo};
+use ring_status::{NodeStatus, condition_text, name_of};
 use std::alloc::AllocError;
 
 // At how many degrees a node of so many stands.
@@ -57,13 +59,66 @@ fn draw_words(out: &mut String, node: u8, state: &str, waiting: u64) -> Result<(
 {
     writeln!(
         out,
-        "<text>{node}</text><text y=\"12\">{state}</text><text y=\"38\">{waiting} waiting</text></g>"
+        "<text>{node}</text><text y=\"12\">{state}</text><text y=\"38\">{waiting} waiting</text>"
     )
 }
 
+#[tactic(auto, unfolding(crate::specs::Nodes::beside_drawn))]
+fn draw_beside(out: &mut String, busy: u64, doors: u32, age: u64) -> Result<(), AllocError>
+    ensures { OnOk result (string_bytes out.new ≡ string_bytes out.old ++ beside_drawn busy doors age) }
+{
+    write!(
+        out,
+        "<title>{busy} of {doors} doors busy, last checkpoint {age} s ago, leads:"
+    )
+}
+
+#[tactic(auto, using(ring_status::proofs::Appends::two))]
+fn draw_group(out: &mut String, lead: &Decision) -> Result<(), AllocError>
+    ensures { OnOk result (string_bytes out.new ≡ string_bytes out.old ++ (codes " " ++ escaped lead.now.key.group)) }
+{
+    out.push_str(" ")?;
+    push_escaped(out, name_of(&lead.key.group))
+}
+
+fn draw_lead(out: &mut String, node: NodeNo, lead: &Decision) -> Result<(), AllocError>
+    ensures { OnOk result (string_bytes out.new ≡ string_bytes out.old ++ lead_drawn node lead.now) }
+{
+    if lead.leader.node.number() == node.number() {
+        draw_group(out, lead)
+    } else {
+        Ok(())
+    }
+}
+
+fn draw_leads(out: &mut String, node: NodeNo, leads: &[Decision]) -> Result<(), AllocError>
+    ensures { OnOk result (string_bytes out.new ≡ string_bytes out.old ++ flat_map (lead_drawn node) leads.now) }
+{
+    for lead in leads {
+        draw_lead(out, node, lead)?;
+    }
+    Ok(())
+}
+
+#[tactic(auto, unfolding(crate::specs::Nodes::node_end))]
+fn draw_node_end(out: &mut String) -> Result<(), AllocError>
+    ensures { OnOk result (string_bytes out.new ≡ string_bytes out.old ++ node_end) }
+{
+    out.push_str("</title></g>\n")
+}
+
+#[tactic(auto, using(ring_status::proofs::Appends::three))]
+fn draw_told(out: &mut String, leads: &[Decision], node: &NodeStatus) -> Result<(), AllocError>
+    ensures { OnOk result (string_bytes out.new ≡ string_bytes out.old ++ told_drawn leads.now node.now) }
+{
+    draw_beside(out, node.counts.busy, node.place.doors, node.checkpoint_age)?;
+    draw_leads(out, node.place.node, leads)?;
+    draw_node_end(out)
+}
+
 #[tactic(auto, using(ring_status::proofs::Appends::four))]
-fn draw_node(out: &mut String, count: usize, node: &NodeStatus) -> Result<(), AllocError>
-    ensures { OnOk result (string_bytes out.new ≡ string_bytes out.old ++ drawn count node.now) }
+fn draw_shape(out: &mut String, count: usize, node: &NodeStatus) -> Result<(), AllocError>
+    ensures { OnOk result (string_bytes out.new ≡ string_bytes out.old ++ shape_drawn count node.now) }
 {
     let state = condition_text(node.condition);
     let degrees = turn(node.place.node, count);
@@ -73,11 +128,29 @@ fn draw_node(out: &mut String, count: usize, node: &NodeStatus) -> Result<(), Al
     draw_words(out, node.place.node.number(), state, node.letters.count)
 }
 
-fn draw_nodes(out: &mut String, count: usize, nodes: &[NodeStatus]) -> Result<(), AllocError>
-    ensures { OnOk result (string_bytes out.new ≡ string_bytes out.old ++ flat_map (drawn count) nodes.now) }
+#[tactic(auto, using(ring_status::proofs::Appends::two))]
+fn draw_node(
+    out: &mut String,
+    count: usize,
+    leads: &[Decision],
+    node: &NodeStatus,
+) -> Result<(), AllocError>
+    ensures { OnOk result (string_bytes out.new ≡ string_bytes out.old ++ drawn count leads.now node.now) }
+{
+    draw_shape(out, count, node)?;
+    draw_told(out, leads, node)
+}
+
+fn draw_nodes(
+    out: &mut String,
+    count: usize,
+    leads: &[Decision],
+    nodes: &[NodeStatus],
+) -> Result<(), AllocError>
+    ensures { OnOk result (string_bytes out.new ≡ string_bytes out.old ++ flat_map (drawn count leads.now) nodes.now) }
 {
     for node in nodes {
-        draw_node(out, count, node)?;
+        draw_node(out, count, leads, node)?;
     }
     Ok(())
 }
@@ -99,11 +172,15 @@ fn draw_end(out: &mut String) -> Result<(), AllocError>
 }
 
 #[tactic(auto, using(ring_status::proofs::Appends::three))]
-/// Adds a picture of the nodes in a circle, as SVG.
-pub(crate) fn print_picture(out: &mut String, nodes: &[NodeStatus]) -> Result<(), AllocError>
-    ensures { OnOk result (string_bytes out.new ≡ string_bytes out.old ++ picture nodes.now) }
+/// Adds a picture of the nodes in a circle, as SVG, with the groups among these that each one leads.
+pub(crate) fn print_picture(
+    out: &mut String,
+    nodes: &[NodeStatus],
+    leads: &[Decision],
+) -> Result<(), AllocError>
+    ensures { OnOk result (string_bytes out.new ≡ string_bytes out.old ++ picture nodes.now leads.now) }
 {
     draw_start(out)?;
-    draw_nodes(out, nodes.len(), nodes)?;
+    draw_nodes(out, nodes.len(), leads, nodes)?;
     draw_end(out)
 }

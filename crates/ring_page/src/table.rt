@@ -1,7 +1,7 @@
 // A table of the nodes.
 ghost use Rattle.std.specs.Prelude.{◌≡◌, ◌++◌, OnOk, string_bytes};
 ghost use Rattle.std.specs.List.{flat_map};
-ghost use Rattle.ring_page.specs.Nodes.{inputs_told, room_told, row, table, table_end, table_start, who, work_told};
+ghost use Rattle.ring_page.specs.Nodes.{disk_told, inputs_told, room_told, row, table, table_end, table_start, who, work_told};
 
 use ring_status::{NodeStatus, condition_text};
 use std::alloc::AllocError;
@@ -40,17 +40,23 @@ fn print_work(
     busy: u64,
     doors: u32,
     left: u64,
-    writing: u64,
 ) -> Result<(), AllocError>
-    ensures { OnOk result (string_bytes out.new ≡ string_bytes out.old ++ work_told waiting busy doors left writing) }
+    ensures { OnOk result (string_bytes out.new ≡ string_bytes out.old ++ work_told waiting busy doors left) }
 {
     writeln!(
         out,
-        "<td>{waiting}</td><td>{busy} of {doors}</td><td>{left}</td><td>{writing} s</td></tr>"
+        "<td>{waiting}</td><td>{busy} of {doors}</td><td>{left}</td>"
     )
 }
 
-#[tactic(auto, using(ring_status::proofs::Appends::four))]
+#[tactic(auto, unfolding(crate::specs::Nodes::disk_told))]
+fn print_disk(out: &mut String, age: u64, writing: u64) -> Result<(), AllocError>
+    ensures { OnOk result (string_bytes out.new ≡ string_bytes out.old ++ disk_told age writing) }
+{
+    writeln!(out, "<td>{age} s ago</td><td>{writing} s</td></tr>")
+}
+
+#[tactic(auto, using(ring_status::proofs::Appends::five))]
 fn print_row(out: &mut String, node: &NodeStatus) -> Result<(), AllocError>
     ensures { OnOk result (string_bytes out.new ≡ string_bytes out.old ++ row node.now) }
 {
@@ -64,8 +70,8 @@ fn print_row(out: &mut String, node: &NodeStatus) -> Result<(), AllocError>
         node.counts.busy,
         node.place.doors,
         node.stands_left,
-        node.writing,
-    )
+    )?;
+    print_disk(out, node.checkpoint_age, node.writing)
 }
 
 fn print_rows(out: &mut String, nodes: &[NodeStatus]) -> Result<(), AllocError>
@@ -82,7 +88,7 @@ fn print_table_start(out: &mut String) -> Result<(), AllocError>
     ensures { OnOk result (string_bytes out.new ≡ string_bytes out.old ++ table_start) }
 {
     out.push_str(
-        "<table>\n<tr><th>node</th><th>port</th><th>state</th><th>inputs</th><th>durable</th><th>bytes used</th><th>messages waiting</th><th>doors busy</th><th>Stands left</th><th>writing</th></tr>\n",
+        "<table>\n<tr><th>node</th><th>port</th><th>state</th><th>inputs</th><th>durable</th><th>bytes used</th><th>messages waiting</th><th>doors busy</th><th>Stands left</th><th>last checkpoint</th><th>writing</th></tr>\n",
     )
 }
 

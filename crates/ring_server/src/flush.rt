@@ -63,16 +63,18 @@ fn leaders_in(notices: &[Notice]) -> u64
         .count() as u64
 }
 
-/// What is counted of a batch or a checkpoint that is durable.
-fn landing_of(landed: &Landed) -> Landing
+/// What is counted of a batch or a checkpoint that is durable since this moment.
+fn landing_of(landed: &Landed, now: Option<Instant>) -> Landing
     ensures kind { result.is_checkpoint ≡ landed.now.is_checkpoint }
     ensures syncs { result.syncs ≡ syncs_of landed.now.is_checkpoint }
     ensures elections { result.elections ≡ count_by names_a_leader landed.now.notices.items }
+    ensures moment { result.at ≡ now }
 {
     Landing {
         is_checkpoint: landed.is_checkpoint,
         syncs: landed.syncs(),
         elections: leaders_in(&landed.notices),
+        at: now,
     }
 }
 
@@ -89,8 +91,10 @@ fn tell_leaders<R: Wait>(rt: &R, notices: &[Notice], links: &Links<'_>) {
 }
 
 /// Counts what landed, sends what that releases, and has the leaders told.
-fn release<R: Wait>(rt: &R, landed: &Landed, links: &Links<'_>) {
-    links.tally.land(rt, landing_of(landed));
+fn release<R: Wait + Clock>(rt: &R, landed: &Landed, links: &Links<'_>) {
+    links
+        .tally
+        .land(rt, landing_of(landed, Instant::now(rt).ok()));
     for index in 0..landed.packets.len() {
         if let Some(letter) = Letter::of_landed(links.place(), landed, index) {
             links.post.send(rt, letter);

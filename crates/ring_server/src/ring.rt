@@ -18,7 +18,7 @@ use std::marker::Brand;
 use std::sync::{Arc, Wait};
 use std::thread;
 use std::thread::{JoinHandle, Scope, Threads};
-use std::time::Clock;
+use std::time::{Clock, Instant};
 
 /// A ring that is to be served: its nodes in their order, their letterboxes, the port at which an operator is told of it, if
 /// there is one, whether it ends with the first node that fails, the folder of its nodes, what a line on standard error
@@ -242,11 +242,11 @@ fn tell_end<O: Write, C: Clock, E: Write>(out: &mut O, log: &mut Log<'_, C, E>, 
     }
 }
 
-/// What the threads of so many nodes count.
-fn take_tallies(alloc: Global, nodes: usize) -> Result<Vec<Tally>, AllocError> {
+/// What the threads of so many nodes count that are started at this moment.
+fn take_tallies(alloc: Global, nodes: usize, now: Option<Instant>) -> Result<Vec<Tally>, AllocError> {
     let mut tallies = Vec::with_capacity(alloc, nodes)?;
     for _ in 0..nodes {
-        tallies.push(Tally::new(alloc)?)?;
+        tallies.push(Tally::new(alloc, now)?)?;
     }
     Ok(tallies)
 }
@@ -281,7 +281,7 @@ pub fn serve_ring<
     let shared = Shared {
         post,
         watch: Watch::new(alloc, verbose)?,
-        tallies: take_tallies(alloc, sites.len())?,
+        tallies: take_tallies(alloc, sites.len(), Instant::now(rt).ok())?,
         latch: StartLatch::new(sites.len()),
         status,
     };

@@ -1,4 +1,4 @@
--- What the threads of a node count, and for how long its device is busy.
+-- What the threads of a node count, for how long its device is busy, and how old its last checkpoint is.
 use Rattle.std.specs.Prelude.{ℕ, ◌+◌, ◌-◌, ◌/◌, ◌^◌, min, Option, Some, None}
 use Rattle.std.specs.Time.{instant_nanos}
 use Rattle.std.specs.declared.time.Instant.{Instant}
@@ -12,11 +12,10 @@ abbrev pub nanos_since : Instant → Option Instant → Option ℕ
 nanos_since since None = None
 nanos_since since (Some now) = Some (instant_nanos now - instant_nanos since)
 
--- For how many nanoseconds a device has been busy that was given something then, `None` where it has nothing to do or there is
--- no clock.
-abbrev pub nanos_busy : Option Instant → Option Instant → Option ℕ
-nanos_busy None now = None
-nanos_busy (Some since) now = nanos_since since now
+-- how many nanoseconds have passed since then, `None` where there is no such moment or no clock
+abbrev pub nanos_passed : Option Instant → Option Instant → Option ℕ
+nanos_passed None now = None
+nanos_passed (Some since) now = nanos_since since now
 
 abbrev pub seconds_of : Option ℕ → ℕ
 seconds_of None = 0

@@ -49,8 +49,9 @@ abbrev pub journal_members : NodeStatus → Members
 journal_members node =
     member (codes "batches") (natural node.counts.batches)
     (member (codes "capacity") (natural node.held.capacity)
+    (member (codes "checkpoint_age") (natural node.checkpoint_age)
     (member (codes "checkpoints") (natural node.counts.checkpoints)
-    (member (codes "durable") (natural node.held.shown.durable) (journal_middle node))))
+    (member (codes "durable") (natural node.held.shown.durable) (journal_middle node)))))
 
 abbrev pub journal_data : NodeStatus → Data
 journal_data node = object (journal_members node)

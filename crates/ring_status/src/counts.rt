@@ -1,7 +1,7 @@
 // What the threads of a node count.
 ghost use Rattle.std.specs.Prelude.{◌≡◌, ◌-◌, Some, None, if◌then◌else◌, MatchOption};
 ghost use Rattle.std.specs.Duration.{as_nanos};
-ghost use Rattle.ring_status.specs.Counts.{micros_of, more, nanos_busy, seconds_of};
+ghost use Rattle.ring_status.specs.Counts.{micros_of, more, nanos_passed, seconds_of};
 
 use std::time::{Duration, Instant};
 
@@ -26,29 +26,43 @@ pub struct Counts {
     pub busy: u64,
     /// When its device was given the batch or the checkpoint that it writes, where it writes one and there was a clock.
     pub since: Option<Instant>,
+    /// When its last checkpoint was durable, or when it was started where none has come since, where there was a clock.
+    pub renewed: Option<Instant>,
 }
 
-/// A batch that is durable, or a checkpoint: how many syncs it took, and how many leaders it made known.
+/// A batch that is durable, or a checkpoint: how many syncs it took, how many leaders it made known, and since when it is durable,
+/// where there was a clock.
 #[derive(Clone, Copy, Debug, PartialEq, Eq)]
 pub struct Landing {
     pub is_checkpoint: bool,
     pub syncs: u64,
     pub elections: u64,
+    pub at: Option<Instant>,
 }
 
-/// For how long a device has been busy that was given something then, `None` where it has nothing to do or there is no clock.
-fn busy_for(since: Option<Instant>, now: Option<Instant>) -> Option<Duration>
-    ensures { MatchOption result (nanos_busy since now ≡ None) (λ time. nanos_busy since now ≡ Some (as_nanos time)) }
+/// How much time has passed since then, `None` where there is no such moment or no clock.
+fn time_since(since: Option<Instant>, now: Option<Instant>) -> Option<Duration>
+    ensures { MatchOption result (nanos_passed since now ≡ None) (λ time. nanos_passed since now ≡ Some (as_nanos time)) }
 {
     let since = since?;
     let now = now?;
     Some(now.saturating_duration_since(since))
 }
 
+/// The same in whole seconds, 0 where it is not known.
+fn seconds_since(since: Option<Instant>, now: Option<Instant>) -> u64
+    ensures { result ≡ seconds_of (nanos_passed since now) }
+{
+    match time_since(since, now) {
+        Some(time) => time.as_secs(),
+        None => 0,
+    }
+}
+
 impl Counts {
-    /// Of a node that has done nothing yet.
-    pub fn new() -> Counts
-        ensures { result ≡ record { batches = 0; checkpoints = 0; syncs = 0; refused_rounds = 0; refused_messages = 0; elections = 0; begun = 0; busy = 0; since = None } }
+    /// Of a node that is started at this moment, where there is a clock, and has done nothing yet.
+    pub fn new(now: Option<Instant>) -> Counts
+        ensures { result ≡ record { batches = 0; checkpoints = 0; syncs = 0; refused_rounds = 0; refused_messages = 0; elections = 0; begun = 0; busy = 0; since = None; renewed = now } }
     {
         Counts {
             batches: 0,
@@ -60,6 +74,7 @@ impl Counts {
             begun: 0,
             busy: 0,
             since: None,
+            renewed: now,
         }
     }
 
@@ -69,11 +84,13 @@ impl Counts {
         ensures checkpoints { self.new.checkpoints ≡ more self.old.checkpoints (if landing.is_checkpoint then 1 else 0) }
         ensures syncs { self.new.syncs ≡ more self.old.syncs landing.syncs }
         ensures elections { self.new.elections ≡ more self.old.elections landing.elections }
+        ensures renewed { self.new.renewed ≡ (if landing.is_checkpoint then landing.at else self.old.renewed) }
         ensures same { self.new ≡ record self.old {
           batches = self.new.batches;
           checkpoints = self.new.checkpoints;
           syncs = self.new.syncs;
           elections = self.new.elections;
+          renewed = self.new.renewed;
         } }
     {
         let batches = u64::from(!landing.is_checkpoint);
@@ -82,6 +99,9 @@ impl Counts {
         self.checkpoints = self.checkpoints.saturating_add(checkpoints);
         self.syncs = self.syncs.saturating_add(landing.syncs);
         self.elections = self.elections.saturating_add(landing.elections);
+        if landing.is_checkpoint {
+            self.renewed = landing.at;
+        }
     }
 
     /// A round was refused for want of memory.
@@ -123,12 +143,12 @@ impl Counts {
 
     /// The device is done with it, however. Tells how many microseconds it took, where that is known.
     pub fn end_writing(&mut self, now: Option<Instant>) -> Option<u64>
-        ensures took { result ≡ micros_of (nanos_busy self.old.since now) }
+        ensures took { result ≡ micros_of (nanos_passed self.old.since now) }
         ensures over { self.new ≡ record self.old { since = None } }
     {
         let since = self.since;
         self.since = None;
-        match busy_for(since, now) {
+        match time_since(since, now) {
             Some(time) => Some(time.as_micros().min(u128::from(u64::MAX)) as u64),
             None => None,
         }
@@ -136,11 +156,15 @@ impl Counts {
 
     /// For how many seconds the device has been busy with a batch or a checkpoint, 0 where it is with none.
     pub fn writing(&self, now: Option<Instant>) -> u64
-        ensures { result ≡ seconds_of (nanos_busy self.now.since now) }
+        ensures { result ≡ seconds_of (nanos_passed self.now.since now) }
     {
-        match busy_for(self.since, now) {
-            Some(time) => time.as_secs(),
-            None => 0,
-        }
+        seconds_since(self.since, now)
+    }
+
+    /// How many seconds ago its last checkpoint was durable, or it was started where none has come since, 0 where there is no clock.
+    pub fn checkpoint_age(&self, now: Option<Instant>) -> u64
+        ensures { result ≡ seconds_of (nanos_passed self.now.renewed now) }
+    {
+        seconds_since(self.renewed, now)
     }
 }

@@ -95,6 +95,7 @@ fn put_first(
 {
     put_number(members, alloc, "durable", node.held.shown.durable)?;
     put_number(members, alloc, "checkpoints", node.counts.checkpoints)?;
+    put_number(members, alloc, "checkpoint_age", node.checkpoint_age)?;
     put_number(members, alloc, "capacity", node.held.capacity)?;
     put_number(members, alloc, "batches", node.counts.batches)
 }

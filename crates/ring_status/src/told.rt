@@ -1,6 +1,6 @@
 // What is told of a node, by what is known of it.
 ghost use Rattle.std.specs.Prelude.{◌≡◌, min};
-ghost use Rattle.ring_status.specs.Counts.{nanos_busy, seconds_of};
+ghost use Rattle.ring_status.specs.Counts.{nanos_passed, seconds_of};
 ghost use Rattle.ring_status.specs.Health.{condition_of, is_renewable, stands_left};
 
 use crate::counts::Counts;
@@ -36,7 +36,8 @@ pub fn node_status(
     ensures renewable { result.renewable ≡ is_renewable held }
     ensures left { result.stands_left ≡ stands_left held }
     ensures counts { result.counts ≡ record counts { busy = min counts.busy place.doors } }
-    ensures writing { result.writing ≡ seconds_of (nanos_busy counts.since now) }
+    ensures writing { result.writing ≡ seconds_of (nanos_passed counts.since now) }
+    ensures age { result.checkpoint_age ≡ seconds_of (nanos_passed counts.renewed now) }
     ensures letters { result.letters ≡ letters }
     ensures commits { result.commits ≡ commits }
     ensures refusals { result.refusals ≡ refusals }
@@ -50,6 +51,7 @@ pub fn node_status(
         stands_left: held.stands_left(),
         counts: without_kept(counts, place.doors),
         writing,
+        checkpoint_age: counts.checkpoint_age(now),
         letters,
         commits,
         refusals,

@@ -75,6 +75,8 @@ pub struct NodeStatus {
     pub counts: Counts,
     /// For how many seconds its device has been busy with the batch or the checkpoint that it writes, 0 where it writes none.
     pub writing: u64,
+    /// How many seconds ago its last checkpoint was durable, or it was started where none has come since.
+    pub checkpoint_age: u64,
     pub letters: Letters,
     /// How long its batches and checkpoints took.
     pub commits: CommitTimes,

@@ -20,8 +20,8 @@ pub struct Tally {
 }
 
 impl Tally {
-    /// Of a node that has done nothing yet.
-    pub fn new(alloc: Global) -> Result<Tally, AllocError> {
+    /// Of a node that is started at this moment, where there is a clock, and has done nothing yet.
+    pub fn new(alloc: Global, now: Option<Instant>) -> Result<Tally, AllocError> {
         let mut refusals = Vec::with_capacity(alloc, usize::from(REFUSALS))?;
         for _ in 0..REFUSALS {
             refusals.push(AtomicU64::new(0))?;
@@ -31,7 +31,7 @@ impl Tally {
             took.push(AtomicU64::new(0))?;
         }
         Ok(Tally {
-            counts: Mutex::new(Counts::new()),
+            counts: Mutex::new(Counts::new(now)),
             took,
             took_longer: AtomicU64::new(0),
             micros: AtomicU64::new(0),

@@ -34,7 +34,7 @@ static BOUNDS: [(u64, &str); 8] = [
 
 #[test]
 fn commits_are_counted_by_how_long_they_took(rt: HostRuntime) -> Result<(), Fail> {
-    let tally = Tally::new(rt.alloc())?;
+    let tally = Tally::new(rt.alloc(), None)?;
     let begun = Instant::now(&rt)?;
     // none was begun, and one was of which no clock tells
     Stopwatch::new(&tally).end(&rt, Some(begun));
@@ -114,7 +114,7 @@ fn told_behind<R: Abort + Wait>(
 
 #[test]
 fn a_hang_is_told_from_the_tenth_second_on(rt: HostRuntime) -> Result<(), Fail> {
-    let tally = Tally::new(rt.alloc())?;
+    let tally = Tally::new(rt.alloc(), None)?;
     let begun = Instant::now(&rt)?;
     let mut stopwatch = Stopwatch::new(&tally);
     stopwatch.begin(&rt, Some(begun));
@@ -137,8 +137,27 @@ fn a_hang_is_told_from_the_tenth_second_on(rt: HostRuntime) -> Result<(), Fail> 
 }
 
 #[test]
+fn the_last_checkpoint_has_an_age(rt: HostRuntime) -> Result<(), Fail> {
+    let begun = Instant::now(&rt)?;
+    let tally = Tally::new(rt.alloc(), Some(begun))?;
+    // what lands so many seconds behind the start, and how old the last checkpoint is a minute behind it
+    for (is_checkpoint, seconds, age) in [(false, 10, 60), (true, 20, 40), (false, 30, 40)] {
+        let landing = Landing {
+            is_checkpoint,
+            syncs: 1,
+            elections: 0,
+            at: begun.checked_add(Duration::from_secs(seconds)),
+        };
+        tally.land(&rt, landing);
+        let told = told_behind(&rt, rt.alloc(), &tally, begun, 60_000)?;
+        assert!(rt; told.checkpoint_age == age, "{seconds}");
+    }
+    Ok(())
+}
+
+#[test]
 fn each_is_counted_as_what_it_is(rt: HostRuntime) -> Result<(), Fail> {
-    let tally = Tally::new(rt.alloc())?;
+    let tally = Tally::new(rt.alloc(), None)?;
     let times = [(true, 3, 0), (false, 2, 5), (false, 2, 0)];
     for (is_checkpoint, syncs, elections) in times {
         tally.land(
@@ -147,6 +166,7 @@ fn each_is_counted_as_what_it_is(rt: HostRuntime) -> Result<(), Fail> {
                 is_checkpoint,
                 syncs,
                 elections,
+                at: None,
             },
         );
     }
@@ -167,6 +187,7 @@ fn each_is_counted_as_what_it_is(rt: HostRuntime) -> Result<(), Fail> {
         begun: 4,
         busy: 3,
         since: None,
+        renewed: None,
     };
     assert!(rt; tally.counts(&rt) == counted);
     Ok(())

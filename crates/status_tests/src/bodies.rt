@@ -108,7 +108,7 @@ fn status(rt: HostRuntime) -> Result<(), Fail> {
     let ring = ring_of(IDENTITY, "a\"b", "--always --idle 5", &nodes, &doorless);
     assert!(rt;
         status_json(rt.alloc(), &ring)?.as_str()
-            == "{\"dir\":\"a\\\"b\",\"doorless\":[1],\"idle\":5,\"nodes\":[{\"elections\":18,\"journal\":{\"batches\":5,\"capacity\":65536,\"checkpoints\":13,\"durable\":29,\
+            == "{\"dir\":\"a\\\"b\",\"doorless\":[1],\"idle\":5,\"nodes\":[{\"elections\":18,\"journal\":{\"batches\":5,\"capacity\":65536,\"checkpoint_age\":21,\"checkpoints\":13,\"durable\":29,\
          \"epoch\":14,\"inputs\":30,\"layout\":3,\"refused\":16,\"renewable\":true,\"snapshot\":345,\"syncs\":6,\"used\":1234,\"writing\":12},\"messages\":{\"credit\":10,\"refused\":17,\"sent\":12,\"taken\":11,\
          \"waiting\":9},\"node\":2,\"port\":7102,\"sessions\":{\"begun\":8,\"busy\":3,\"doors\":4,\"refusals\":[{\"count\":2,\"number\":4},\
          {\"count\":1,\"number\":25}]},\"stands\":{\"floors\":15,\"left\":1017,\"taken\":7},\"state\":\"limit\"}],\"ring\":\"00112233445566778899aabbccddeeff\",\

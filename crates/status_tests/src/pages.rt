@@ -56,12 +56,15 @@ fn a_ring(rt: HostRuntime) -> Result<(), Fail> {
             "<svg ",
             "rotate(0) translate(0 -180) rotate(-0)\"><circle class=\"well\"",
             "pathLength=\"65536\" stroke-dasharray=\"1234 65536\"",
-            "<text>1</text><text y=\"12\">well</text><text y=\"38\">9 waiting</text>",
+            "<text>1</text><text y=\"12\">well</text><text y=\"38\">9 waiting</text>\n<title>3 of 4 doors busy, last checkpoint 21 s ago, \
+             leads: red</title></g>\n",
+            "leads: blue</title></g>\n",
+            "leads:</title></g>\n",
             "rotate(120) translate(0 -180) rotate(-120)\"><circle class=\"limit\"",
             "rotate(240) translate(0 -180) rotate(-240)\"><circle class=\"hangs\"",
             "</svg>\n<table>\n",
             "<tr class=\"well\"><th>1</th><td>7101</td><td>well</td>\n<td>30</td><td>29</td>\n<td><meter max=\"65536\" \
-             value=\"1234\"></meter> 1234 of 65536</td>\n<td>9</td><td>3 of 4</td><td>1017</td><td>12 s</td></tr>\n",
+             value=\"1234\"></meter> 1234 of 65536</td>\n<td>9</td><td>3 of 4</td><td>1017</td>\n<td>21 s ago</td><td>12 s</td></tr>\n",
             "<tr class=\"limit\"><th>2</th><td>7102</td><td>limit</td>\n",
             "<tr class=\"hangs\"><th>3</th><td>7103</td><td>hangs</td>\n",
             "</table>\n<h2>Leaders</h2>\n",

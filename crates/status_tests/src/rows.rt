@@ -61,6 +61,7 @@ pub const COUNTS: Counts = Counts {
     begun: 8,
     busy: 3,
     since: None,
+    renewed: None,
 };
 
 /// Where clients come to the node of this number, and what waits there.
@@ -112,6 +113,7 @@ pub fn node(
         stands_left: 1_017,
         counts: COUNTS,
         writing: 12,
+        checkpoint_age: 21,
         letters: letters(rt, number),
         commits: CommitTimes {
             within,
