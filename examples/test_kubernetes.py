@@ -52,6 +52,10 @@ class KubernetesTest(unittest.TestCase):
             self.assertEqual(self.make(begin).returncode, 0)
             self.assertEqual({path.name: path.read_bytes() for path in (self.volume / "state").iterdir()}, made)
 
+    def test_no_other_volume_is_mounted_over_the_ring(self) -> None:
+        # A runtime mounts an empty one for each VOLUME of an image that is no mountPath to the letter.
+        self.assertNotRegex((HERE / "Containerfile").read_text(encoding="utf-8"), r"(?m)^VOLUME")
+
     def test_the_words_are_taken_and_need_the_ring(self) -> None:
         words = json.loads(re.search(r"args: (\[.*\])", TEXT)[1])
         ended = subprocess.run([RINGD, "--settings", str(self.folder / "ringd.toml"), *words], cwd=self.volume, text=True,

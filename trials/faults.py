@@ -31,7 +31,7 @@ FILES = NAMES[1:]
 WAYS = {"EIO": errno.EIO, "ENOSPC": errno.ENOSPC, "EINTR": errno.EINTR, "short": 0}
 # What may be said: a node that fails while the ring serves, and a start that is refused.
 FAILED = re.compile(r"(ringd: node [1-3] failed\n(ringd: \S+/node-[1-3]\.crj: .*\n)?)+")
-REFUSED = re.compile(r"ringd: (node [1-3]: device 1\n(ringd: \S+: .+\n)?|settings cannot be read\n)")
+REFUSED = re.compile(r"ringd: (node [1-3]: device 1\n(ringd: \S+: .+\n)?|settings cannot be read\n(ringd: \S+: .+\n)?)")
 # What is made again where it was interrupted.
 AGAIN = ("pwrite", "pread")
 

@@ -47,6 +47,7 @@ base() {
 }
 image() {
     mkdir "$folder/context" && cp "$ringd" "$folder/context/ringd" &&
+        { cat "$ringd.commit" 2> /dev/null || echo unknown; } > "$folder/context/ringd.commit" &&
         build bud --pull-never --isolation chroot -t ringd -f "$root/examples/Containerfile" "$folder/context"
 }
 # volume NAME: an empty one, that is mounted from now on where the image has it.

@@ -63,8 +63,8 @@ def told(text: bytes) -> tuple[int, bytes, bytes]:
                           ("port", is_within(table.get("port"), 1, last)),
                           ("capacity", is_within(table.get("capacity"), 4_096, 1_048_576))):
         if not is_right:
-            told = f"wrong\nringd: {key} is {MAY_BE[key]}" if key in table else "missing"
-            return 2, b"", f"ringd: setting {key} is {told}\n".encode()
+            told = "wrong" if key in table else "missing"
+            return 2, b"", f"ringd: setting {key} is {told}\nringd: {key} is {MAY_BE[key]}\n".encode()
     unknown = sorted(key.encode() for key in set(table) - set(MAY_BE))
     if unknown:
         shown = b"ringd: setting %s is unknown\n" % unknown[0] if is_printed(unknown[0], 64) else b""

@@ -125,7 +125,7 @@ class Words(Kind):
             HELP: ended.status == 0 and b"Usage: ringd" in ended.out and not ended.err,
             VERSION: ended.status == 0 and re.fullmatch(rb"ringd \d+\.\d+\.\d+ \(layout \d+\)\n", ended.out) and not ended.err,
             TAKEN: ended[:2] == (2, b"") and are_lines(ended.err, b"ringd: settings are not TOML", b"ringd: line 1 of the settings"),
-            "path": ended[:2] == (2, b"") and are_lines(ended.err, b"ringd: settings cannot be read"),
+            "path": ended[:2] == (2, b"") and ended.err.startswith(b"ringd: settings cannot be read\n"),
         }[right]
         return None if is_right else f"{ended[:3]}, where it is {right}"
 

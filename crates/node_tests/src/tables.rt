@@ -34,6 +34,7 @@ fn a_stand_touches_one_key(rt: HostRuntime) {
     for row in &BESIDE {
         assert!(rt; table.ballot(&key(&rt, row.0, row.1)).is_none());
     }
+    drop(table);
 }
 
 /// The table hears the message; then the latest leader of the group has this term, and this bid and node.
@@ -81,6 +82,7 @@ fn the_latest_is_of_the_greatest_term(rt: HostRuntime) {
     let copy = table.try_copy().expect(&rt, "ample memory");
     is_led(&rt, &copy, &red, (80, 3));
     assert!(rt; copy.latest(&red.group) == table.latest(&red.group));
+    drop((table, copy));
 }
 
 /// One key that is relayed alone, and two with leaders.

@@ -63,12 +63,12 @@ turn node count = 360 * (node - 1) / max count 1
 unfoldable pub way_drawn : ℕ → ℕ → List ℕ
 way_drawn degrees half =
     codes "<path class=\"way\" transform=\"rotate(" ++ (decimal degrees ++ (codes ") rotate(" ++ (decimal half
-    ++ codes ") translate(0 -180)\" d=\"M-5 -5L4 0L-5 5\"/>\n")))
+    ++ codes ") translate(0 -220)\" d=\"M-5 -5L4 0L-5 5\"/>\n")))
 
 -- its place, and its colour by its condition
 unfoldable pub place_drawn : ℕ → List ℕ → List ℕ
 place_drawn degrees state =
-    codes "<g transform=\"rotate(" ++ (decimal degrees ++ (codes ") translate(0 -180) rotate(-" ++ (decimal degrees
+    codes "<g transform=\"rotate(" ++ (decimal degrees ++ (codes ") translate(0 -220) rotate(-" ++ (decimal degrees
     ++ (codes ")\"><circle class=\"" ++ (state ++ codes "\" r=\"21\"/>\n")))))
 
 -- how much of its capacity is taken, as a part of a circle
@@ -83,11 +83,11 @@ words_drawn node state waiting =
     codes "<text>" ++ (decimal node ++ (codes "</text><text y=\"12\">" ++ (state ++ (codes "</text><text y=\"38\">" ++ (decimal waiting
     ++ codes " waiting</text>\n")))))
 
--- what stands beside it where a pointer is: its doors with a session, how old its last checkpoint is, and the groups that it leads
+-- its doors with a session, and how old its last checkpoint is; behind it stand, where a pointer is, the groups that it leads
 unfoldable pub beside_drawn : ℕ → ℕ → ℕ → List ℕ
 beside_drawn busy doors age =
-    codes "<title>" ++ (decimal busy ++ (codes " of " ++ (decimal doors ++ (codes " doors busy, last checkpoint " ++ (decimal age
-    ++ codes " s ago, leads:")))))
+    codes "<text y=\"49\">" ++ (decimal busy ++ (codes " of " ++ (decimal doors ++ (codes " doors busy</text><text y=\"60\">checkpoint " ++ (decimal age
+    ++ codes " s ago</text><title>leads:")))))
 
 abbrev pub lead_drawn : ℕ → Decision → List ℕ
 lead_drawn node lead = if (lead.leader).node == node then codes " " ++ escaped (lead.key).group else []
@@ -110,7 +110,7 @@ abbrev pub drawn : ℕ → List Decision → NodeStatus → List ℕ
 drawn count leads node = shape_drawn count node ++ told_drawn leads node
 
 unfoldable pub picture_start : List ℕ
-picture_start = codes "<svg viewBox=\"-230 -230 460 460\" width=\"460\" height=\"460\" role=\"img\" aria-label=\"The ring, as in the table\">\n<circle class=\"way\" r=\"180\"/>\n"
+picture_start = codes "<svg viewBox=\"-270 -260 540 560\" width=\"540\" height=\"560\" role=\"img\" aria-label=\"The ring, as in the table\">\n<circle class=\"way\" r=\"220\"/>\n"
 
 unfoldable pub picture_end : List ℕ
 picture_end = codes "</svg>\n"

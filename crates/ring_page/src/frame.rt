@@ -20,7 +20,7 @@ fn print_behind_title(out: &mut String) -> Result<(), AllocError>
     ensures { OnOk result (string_bytes out.new ≡ string_bytes out.old ++ behind_title) }
 {
     out.push_str(
-        "</title>\n<style>body{font:15px sans-serif;margin:1em}table{border-collapse:collapse}th,td{border:1px solid #999;padding:2px 8px;text-align:right}svg{font-size:10px;text-anchor:middle}.way,.used{fill:none;stroke:#999}.used{stroke:#246;stroke-width:4}.well{fill:#cec}.limit{fill:#ffc;background:#ffc}.full{fill:#fd9;background:#fd9}.hangs,.failed{fill:#fbb;background:#fbb}</style>\n</head>\n<body>\n<h1>",
+        "</title>\n<style>body{font:15px sans-serif;margin:1em}table{border-collapse:collapse}th,td{border:1px solid #888;padding:2px 8px;text-align:right}svg{font-size:10px;text-anchor:middle}.way,.used{fill:none;stroke:#888}.used{stroke:#246;stroke-width:4}.well{fill:#cec}.limit{fill:#ffc;background:#ffc}.full{fill:#fd9;background:#fd9}.hangs,.failed{fill:#fbb;background:#fbb}</style>\n</head>\n<body>\n<h1>",
     )
 }
 

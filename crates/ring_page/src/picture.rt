@@ -29,7 +29,7 @@ fn draw_way(out: &mut String, degrees: usize, half: usize) -> Result<(), AllocEr
 {
     writeln!(
         out,
-        "<path class=\"way\" transform=\"rotate({degrees}) rotate({half}) translate(0 -180)\" d=\"M-5 -5L4 0L-5 5\"/>"
+        "<path class=\"way\" transform=\"rotate({degrees}) rotate({half}) translate(0 -220)\" d=\"M-5 -5L4 0L-5 5\"/>"
     )
 }
 
@@ -39,7 +39,7 @@ fn draw_place(out: &mut String, degrees: usize, state: &str) -> Result<(), Alloc
 {
     writeln!(
         out,
-        "<g transform=\"rotate({degrees}) translate(0 -180) rotate(-{degrees})\"><circle class=\"{state}\" r=\"21\"/>"
+        "<g transform=\"rotate({degrees}) translate(0 -220) rotate(-{degrees})\"><circle class=\"{state}\" r=\"21\"/>"
     )
 }
 
@@ -69,7 +69,7 @@ fn draw_beside(out: &mut String, busy: u64, doors: u32, age: u64) -> Result<(), 
 {
     write!(
         out,
-        "<title>{busy} of {doors} doors busy, last checkpoint {age} s ago, leads:"
+        "<text y=\"49\">{busy} of {doors} doors busy</text><text y=\"60\">checkpoint {age} s ago</text><title>leads:"
     )
 }
 
@@ -160,7 +160,7 @@ fn draw_start(out: &mut String) -> Result<(), AllocError>
     ensures { OnOk result (string_bytes out.new ≡ string_bytes out.old ++ picture_start) }
 {
     out.push_str(
-        "<svg viewBox=\"-230 -230 460 460\" width=\"460\" height=\"460\" role=\"img\" aria-label=\"The ring, as in the table\">\n<circle class=\"way\" r=\"180\"/>\n",
+        "<svg viewBox=\"-270 -260 540 560\" width=\"540\" height=\"560\" role=\"img\" aria-label=\"The ring, as in the table\">\n<circle class=\"way\" r=\"220\"/>\n",
     )
 }
 

@@ -3,7 +3,7 @@ use crate::event::Event;
 use crate::links::Links;
 use ring_records::{Bid, GroupName, Key, Refusal, Reply, Term};
 use ring_service::is_for_room;
-use sessions::Service;
+use sessions::{Question, Service};
 use std::sync::Wait;
 
 /// A service at this door of a node, which tells where an operator is answered for what its client stood, until the session
@@ -46,6 +46,31 @@ impl<'a, R: Wait, S: Service> EnrolledService<'a, R, S> {
         }
     }
 
+    /// What a client was answered to a Stand.
+    fn hear_stand(&self, key: &Key, bid: Bid, answer: &Result<Reply, Refusal>) {
+        if is_own(answer, bid) {
+            self.enrol(key);
+        }
+        if is_for_room(answer) {
+            self.links.fill(self.rt);
+        }
+        if matches!(answer, Ok(Reply::Refused(Refusal::Limit))) {
+            self.links.limit(self.rt);
+        }
+        if matches!(answer, Ok(Reply::Stood)) {
+            self.links.watch.ease(self.rt, self.links.node);
+        }
+    }
+
+    /// What a client was answered to a Retire.
+    fn hear_retire(&self, group: &GroupName, floor: Term, answer: &Result<Reply, Refusal>) {
+        if matches!(answer, Ok(Reply::Retired)) {
+            self.retire_known(group, floor);
+            let event = Event::Retired(self.links.node, *group, floor);
+            self.links.watch.hear(self.rt, event);
+        }
+    }
+
     /// The session has ended.
     pub(crate) fn withdraw(&self) {
         if let Some(reception) = self.links.reception {
@@ -71,38 +96,13 @@ fn is_own(answer: &Result<Reply, Refusal>, bid: Bid) -> bool {
 impl<R: Wait, S: Service> Service for EnrolledService<'_, R, S> {
     ghost answers = { λ before asked answer after. S.answers before.service asked answer after.service };
 
-    fn stand(&mut self, key: Key, bid: Bid) -> Result<Reply, Refusal> {
-        let answer = self.service.stand(key, bid);
-        if is_own(&answer, bid) {
-            self.enrol(&key);
-        }
-        if is_for_room(&answer) {
-            self.links.fill(self.rt);
-        }
-        if matches!(answer, Ok(Reply::Refused(Refusal::Limit))) {
-            self.links.limit(self.rt);
-        }
-        if matches!(answer, Ok(Reply::Stood)) {
-            self.links.watch.ease(self.rt, self.links.node);
+    fn ask(&mut self, question: Question) -> Result<Reply, Refusal> {
+        let answer = self.service.ask(question);
+        match question {
+            Question::Stand(key, bid) => self.hear_stand(&key, bid, &answer),
+            Question::Retire(group, floor) => self.hear_retire(&group, floor, &answer),
+            Question::Who(_) | Question::Latest(_) => {}
         }
         answer
-    }
-
-    fn retire(&mut self, group: &GroupName, floor: Term) -> Result<Reply, Refusal> {
-        let answer = self.service.retire(group, floor);
-        if matches!(answer, Ok(Reply::Retired)) {
-            self.retire_known(group, floor);
-            let event = Event::Retired(self.links.node, *group, floor);
-            self.links.watch.hear(self.rt, event);
-        }
-        answer
-    }
-
-    fn who(&mut self, key: &Key) -> Result<Reply, Refusal> {
-        self.service.who(key)
-    }
-
-    fn latest(&mut self, group: &GroupName) -> Result<Reply, Refusal> {
-        self.service.latest(group)
     }
 }

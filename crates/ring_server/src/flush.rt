@@ -118,9 +118,8 @@ fn starve<R: Wait + Clock>(rt: &R, links: &Links<'_>, since: Option<Instant>) ->
     since
 }
 
-/// Flushes until the hub is closed and nothing waits, and sends what that releases. Behind a checkpoint the hub lets go of
-/// what that stands for. Where a growth is refused it tries again; whatever else is refused fails the node, which is told, so
-/// that nobody waits for ever. Whether it came to its end.
+/// Flushes until the hub is closed and nothing waits, and sends what that releases. Where a growth is refused it tries again;
+/// whatever else is refused fails the node, which is told, so that nobody waits for ever. Whether it came to its end.
 pub(crate) fn flush_all<V: Device, J: Naming, A: NodeLedger, R: Wait + Clock>(
     rt: &R,
     hub: &Hub<A>,
@@ -133,9 +132,6 @@ pub(crate) fn flush_all<V: Device, J: Naming, A: NodeLedger, R: Wait + Clock>(
             Ok(Some(landed)) => {
                 since = None;
                 release(rt, &landed, links);
-                if landed.is_checkpoint {
-                    flusher.let_go(rt, hub);
-                }
             }
             Ok(None) => return true,
             Err(Refusal::OutOfMemory) => since = starve(rt, links, since),

@@ -243,7 +243,11 @@ fn tell_end<O: Write, C: Clock, E: Write>(out: &mut O, log: &mut Log<'_, C, E>, 
 }
 
 /// What the threads of so many nodes count that are started at this moment.
-fn take_tallies(alloc: Global, nodes: usize, now: Option<Instant>) -> Result<Vec<Tally>, AllocError> {
+fn take_tallies(
+    alloc: Global,
+    nodes: usize,
+    now: Option<Instant>,
+) -> Result<Vec<Tally>, AllocError> {
     let mut tallies = Vec::with_capacity(alloc, nodes)?;
     for _ in 0..nodes {
         tallies.push(Tally::new(alloc, now)?)?;

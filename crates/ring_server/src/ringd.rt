@@ -54,7 +54,10 @@ where
 {
     let words = match read_words(alloc, said) {
         Ok(words) => words,
-        Err(error) => return tell_words(&error, out, err),
+        Err(error) => {
+            let mut log = Log::new(rt, err, LogForm::of(None, is_journal));
+            return tell_words(&error, out, &mut log);
+        }
     };
     let log = LogForm::of(words.log, is_journal);
     let mut text = Vec::new(alloc);
@@ -71,6 +74,7 @@ where
         Err(fault) => {
             let mut log = Log::new(rt, err, log);
             let _ = writeln!(log.line(Level::Error), "ringd: {fault}");
+            let _ = fault.print_source(&mut log, words.settings);
             let _ = fault.print_place(&mut log, alloc, &text);
             let _ = fault.print_rule(&mut log);
             fault.status()
@@ -79,17 +83,21 @@ where
 }
 
 /// Tells why the words were not taken, or what they asked for of the program, and the status for that.
-fn tell_words<O: Write, E: Write>(error: &Error, out: &mut O, err: &mut E) -> u8 {
+fn tell_words<O: Write, C: Clock, E: Write>(
+    error: &Error,
+    out: &mut O,
+    log: &mut Log<'_, C, E>,
+) -> u8 {
     if error.kind() == WordFault::OutOfMemory {
         let fault = RunFault::Memory(AllocError);
-        let _ = writeln!(err, "ringd: {fault}");
+        let _ = writeln!(log.line(Level::Error), "ringd: {fault}");
         return fault.status();
     }
     if error.use_stderr() {
-        let _ = write!(err, "{error}");
+        let _ = write!(log.line(Level::Error), "{error}");
     } else if write!(out, "{error}").is_err() {
         let fault = RunFault::Output;
-        let _ = writeln!(err, "ringd: {fault}");
+        let _ = writeln!(log.line(Level::Error), "ringd: {fault}");
         return fault.status();
     }
     (error.exit_code() % 256) as u8
@@ -132,7 +140,7 @@ where
         return Err(RunFault::Output);
     }
     let end = match (words.always, words.serve) {
-        _ if words.make => make(rt, alloc, &settings, call, err),
+        _ if words.make => make(rt, alloc, &settings, call, out, err),
         _ if words.check => check(rt, alloc, &settings, words, out),
         (true, _) => serve(rt, alloc, &settings, call, None, out, err),
         (false, Some(count)) => serve(rt, alloc, &settings, call, Some(count), out, err),
@@ -190,17 +198,20 @@ fn check<R: Files<File = File>, O: Write>(
     )?)
 }
 
-/// Makes the nodes that are not there, as a start does, and serves nothing. Where it is refused, what it made is gone.
-fn make<R: Files<File = File> + Clock, E: Write>(
+/// Makes the nodes that are not there, as a start does, and serves nothing; prints the ring's identity. Where it is refused, what
+/// it made is gone.
+fn make<R: Files<File = File> + Clock, O: Write, E: Write>(
     rt: &R,
     alloc: Global,
     settings: &Settings,
     call: &Call<'_>,
+    out: &mut O,
     err: &mut E,
 ) -> Result<u8, RunFault> {
     let target = target_of(settings, &call.words);
     let mut log = Log::new(rt, err, call.log);
-    Ok(make_ring(rt, alloc, settings.dir.as_str(), &target, VERSION, &mut log)?)
+    let dir = settings.dir.as_str();
+    Ok(make_ring(rt, alloc, dir, &target, VERSION, out, &mut log)?)
 }
 
 /// Finds the nodes, has their ports, makes the nodes ready, and serves so many sessions at each, or without end. Where

@@ -13,9 +13,9 @@ use thiserror::Error;
 /// Why a run ended early, displayed without the program's name.
 #[derive(Clone, Copy, Debug, Error)]
 pub enum RunFault {
-    /// The system did not give them, or not as UTF-8.
+    /// The system did not give them and answered so, or they are not UTF-8, or too long.
     #[error("settings cannot be read")]
-    Settings,
+    Settings(Option<SystemFault>),
     /// They are refused.
     #[error(transparent)]
     Start(#[from] StartFault),
@@ -61,6 +61,20 @@ impl RunFault {
         }
     }
 
+    /// A line of what the system answered, where the settings at this path cannot be read.
+    pub(crate) fn print_source<C: Clock, E: Write>(
+        &self,
+        log: &mut Log<'_, C, E>,
+        path: &str,
+    ) -> io::Result<()> {
+        match self {
+            RunFault::Settings(Some(fault)) => {
+                writeln!(log.line(Level::Error), "ringd: {path}: {fault}")
+            }
+            _ => Ok(()),
+        }
+    }
+
     /// A line of where this text of settings is no TOML, or of a key of it that is no setting.
     pub(crate) fn print_place<C: Clock, E: Write>(
         &self,
@@ -87,10 +101,10 @@ impl RunFault {
         }
     }
 
-    /// A line of what a setting may be, where one is wrong or unknown.
+    /// A line of what a setting may be, where one is missing, wrong or unknown.
     pub(crate) fn print_rule<C: Clock, E: Write>(&self, log: &mut Log<'_, C, E>) -> io::Result<()> {
         match self {
-            RunFault::Start(StartFault::Wrong(setting)) => {
+            RunFault::Start(StartFault::Missing(setting) | StartFault::Wrong(setting)) => {
                 let values = values_of(*setting);
                 writeln!(log.line(Level::Error), "ringd: {setting} is {values}")
             }
@@ -106,7 +120,7 @@ impl RunFault {
     pub fn status(&self) -> u8 {
         match self {
             RunFault::Start(StartFault::Memory) => 1,
-            RunFault::Settings | RunFault::Start(_) => 2,
+            RunFault::Settings(_) | RunFault::Start(_) => 2,
             _ => 1,
         }
     }

@@ -1,5 +1,6 @@
 //! The settings as they are taken.
 use crate::run_fault::RunFault;
+use disk_model::{SystemCall, SystemFault};
 use ring_service::{Settings, read_settings};
 use std::alloc::{AllocError, Global};
 use std::fs::File;
@@ -20,13 +21,18 @@ pub(crate) fn take_settings<R: Files<File = File>, I: Read>(
     } else {
         match File::open(rt, path) {
             Ok(mut file) => read_all(alloc, &mut file)?,
-            Err(_) => return Err(RunFault::Settings),
+            Err(error) => return Err(unread(SystemCall::Open, &error)),
         }
     };
     match str::from_utf8(text) {
         Ok(text) => Ok(read_settings(alloc, text)?),
-        Err(_) => Err(RunFault::Settings),
+        Err(_) => Err(RunFault::Settings(None)),
     }
+}
+
+/// What the system answered in place of the settings.
+fn unread(call: SystemCall, error: &io::Error) -> RunFault {
+    RunFault::Settings(Some(SystemFault::new(call, error)))
 }
 
 /// At most so many bytes of settings are read.
@@ -39,9 +45,9 @@ fn read_all<I: Read>(alloc: Global, input: &mut I) -> Result<Vec<u8>, RunFault> 
         .read_to_end(&mut bytes)
     {
         Ok(_) if bytes.len() <= SETTINGS_BYTES => Ok(bytes),
-        Ok(_) => Err(RunFault::Settings),
+        Ok(_) => Err(RunFault::Settings(None)),
         Err(error) if error.kind() == ErrorKind::OutOfMemory => Err(RunFault::Memory(AllocError)),
-        Err(_) => Err(RunFault::Settings),
+        Err(error) => Err(unread(SystemCall::Read, &error)),
     }
 }
 

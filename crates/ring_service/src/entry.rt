@@ -1,12 +1,12 @@
 //! What stands between the clients of a node and its hub.
 ghost use Rattle.std.specs.Prelude.{◌≡◌, ◌↔◌, ◌+◌, ◌≤◌, ◌&&◌, IsTrue, Ok, Some, None, if◌then◌else◌, nat_lt};
 ghost use Rattle.ring_records.specs.declared.reply.Reply.TheVariants as replied;
-ghost use Rattle.ring_records.specs.declared.request.Request.TheVariants as ask;
-ghost use Rattle.ring_service.specs.Entry.{EntryAnswers, IsAsked, latest_in, objection_to};
+ghost use Rattle.ring_service.specs.Entry.{EntryAnswers, IsAsked, IsStand, latest_in, objection_to};
+ghost use Rattle.sessions.specs.Commands.{request_of};
 
 use commit_hub::{Hub, Look, NodeLedger};
-use ring_records::{Bid, GroupName, Key, Refusal, Reply, Term};
-use sessions::Service;
+use ring_records::{Bid, Key, Refusal, Reply, Term};
+use sessions::{Question, Service};
 use std::sync::Wait;
 
 /// A service in front of that of a hub. A Stand is refused here, and the hub not asked, as 28 where its term is more than
@@ -92,46 +92,41 @@ impl<'a, R, A: NodeLedger, S: Service> EntryService<'a, R, A, S> {
 }
 
 impl<'a, R: Wait, A: NodeLedger, S: Service> EntryService<'a, R, A, S> {
-    // Asks to stand, once more behind a refusal for room.
-    fn ask_to_stand(&mut self, key: &Key, bid: &Bid) -> Result<Reply, Refusal>
-        ensures asked { IsAsked S.answers self.old.service (ask.Stand key.now bid.now) result self.new.service }
+    // Asks this, once more behind a refusal for room.
+    fn ask_for_room(&mut self, question: &Question) -> Result<Reply, Refusal>
+        ensures asked { IsAsked S.answers self.old.service (request_of question.now) result self.new.service }
         ensures leap { self.new.leap ≡ self.old.leap }
     {
-        let first = self.service.stand(*key, *bid);
+        let first = self.service.ask(*question);
         if !is_for_room(&first) {
             return first;
         }
         self.hub.wait_for_room(self.rt);
-        self.service.stand(*key, *bid)
+        self.service.ask(*question)
+    }
+
+    // Refuses a Stand, or asks it.
+    fn decide_stand(&mut self, key: Key, bid: Bid) -> Result<Reply, Refusal>
+        ensures decided { IsStand S.answers A.member A.opening self.old.leap self.old.service key bid result self.new.service }
+        ensures leap { self.new.leap ≡ self.old.leap }
+    {
+        let told = self.service.latest(&key.group);
+        let look = self.hub.look(self.rt);
+        match objection_to(self.leap, latest_in(&told), &look, key.term) {
+            Some(refusal) => Ok(Reply::Refused(refusal)),
+            None => self.ask_for_room(&Question::Stand(key, bid)),
+        }
     }
 }
 
 impl<'a, R: Wait, A: NodeLedger, S: Service> Service for EntryService<'a, R, A, S> {
     ghost answers = { λ before asked answer after. (after.leap ≡ before.leap) × EntryAnswers S.answers A.member A.opening before.leap before.service asked answer after.service };
 
-    fn stand(&mut self, key: Key, bid: Bid) -> Result<Reply, Refusal> {
-        let told = self.service.latest(&key.group);
-        let look = self.hub.look(self.rt);
-        match objection_to(self.leap, latest_in(&told), &look, key.term) {
-            Some(refusal) => Ok(Reply::Refused(refusal)),
-            None => self.ask_to_stand(&key, &bid),
+    fn ask(&mut self, question: Question) -> Result<Reply, Refusal> {
+        match question {
+            Question::Stand(key, bid) => self.decide_stand(key, bid),
+            Question::Retire(_, _) => self.ask_for_room(&question),
+            Question::Who(_) | Question::Latest(_) => self.service.ask(question),
         }
-    }
-
-    fn retire(&mut self, group: &GroupName, floor: Term) -> Result<Reply, Refusal> {
-        let first = self.service.retire(group, floor);
-        if !is_for_room(&first) {
-            return first;
-        }
-        self.hub.wait_for_room(self.rt);
-        self.service.retire(group, floor)
-    }
-
-    fn who(&mut self, key: &Key) -> Result<Reply, Refusal> {
-        self.service.who(key)
-    }
-
-    fn latest(&mut self, group: &GroupName) -> Result<Reply, Refusal> {
-        self.service.latest(group)
     }
 }

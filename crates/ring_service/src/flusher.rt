@@ -77,8 +77,8 @@ impl<V: Device, J: Naming, A: NodeLedger> Flusher<V, J, A> {
     }
 
     /// One round on the hub of its tie: waits for inputs, makes the first of them durable, at most 64, or all of them by a
-    /// checkpoint where one is due, and publishes the leaders that they make known. Tells what it made durable; `None` once
-    /// the hub is closed and nothing waits.
+    /// checkpoint where one is due, behind which the hub lets go of them, and publishes the leaders that they make known. Tells
+    /// what it made durable; `None` once the hub is closed and nothing waits.
     ///
     /// Refused as 8 or 9, nothing was launched: a growth was refused; the flusher has ended. Refused as 15, the device failed.
     /// After 15 the flusher has ended. Notices that the board cannot take for memory stay owed, and go first in
@@ -196,11 +196,6 @@ impl<V: Device, J: Naming, A: NodeLedger> Flusher<V, J, A> {
         hub.abandon(rt, &mut self.tie);
     }
 
-    /// Has the hub of its tie let go of the inputs that the area of the journal in use stands for.
-    pub fn let_go<R: Wait>(&self, rt: &R, hub: &Hub<A>) {
-        hub.let_go(rt);
-    }
-
     /// The epoch of its journal's area in use, which each round that makes a checkpoint raises by 1.
     pub fn epoch(&self) -> u64
         ensures { result ≡ journal_epoch (journal_of self.now) }
@@ -232,6 +227,15 @@ impl<V: Device, J: Naming, A: NodeLedger> Flusher<V, J, A> {
             has_ended: _,
         } = self;
         (journal, board, owed)
+    }
+}
+
+/// Behind a checkpoint the hub lets go of the inputs that the area of the journal in use stands for.
+fn free_behind<A: NodeLedger, R: Wait>(rt: &R, hub: &Hub<A>, landed: &Landed)
+    requires inside { IsNodeOf A.member.n A.member.node }
+{
+    if landed.is_checkpoint {
+        hub.let_go(rt);
     }
 }
 
@@ -271,7 +275,10 @@ fn settle<V: Device, A: NodeLedger, R: Wait>(
 {
     match journal.write(work) {
         Ok(receipt) => match hub.land(rt, tie, receipt) {
-            Ok(landed) => Ok(landed),
+            Ok(landed) => {
+                free_behind(rt, hub, &landed);
+                Ok(landed)
+            }
             Err(_) => unreachable!(),
         },
         Err(spoiled) => match hub.fail(rt, tie, spoiled) {

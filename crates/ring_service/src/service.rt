@@ -6,8 +6,8 @@ ghost use Rattle.decision_board.specs.Readers.{seen};
 use commit_hub::{Begun, Hub, NodeLedger, Share};
 use decision_board::{BoardReader, Naming, Told};
 use group_commit::Stub;
-use ring_records::{Bid, GroupName, Key, Refusal, Reply, Request, Term};
-use sessions::Service;
+use ring_records::{GroupName, Key, Refusal, Reply, Request};
+use sessions::{Question, Service};
 use std::sync::Wait;
 
 /// A service over a node that other threads use too. It stands and retires by the hub, with a share of its own, and waits
@@ -85,7 +85,7 @@ impl<'a, R: Wait, J: Naming, A: NodeLedger> HubService<'a, R, J, A> {
     ghost use Rattle.ring_service.specs.Services.{IsReleased, IsUnreleased};
 
     // Asks the hub for what is no question for leaders, and waits.
-    fn ask(&mut self, question: Request) -> Result<Reply, Refusal>
+    fn ask_hub(&mut self, question: Request) -> Result<Reply, Refusal>
         requires { is_outside A.member.n question ≡ false }
         ensures reply { IfOk result (λ reply. IsReleased A.member A.opening self.old question reply self.new) }
         ensures refusal { IfErr result (λ why. IsUnreleased self.old why self.new) }
@@ -106,30 +106,42 @@ impl<'a, R: Wait, J: Naming, A: NodeLedger> HubService<'a, R, J, A> {
     }
 }
 
-impl<'a, R: Wait, J: Naming, A: NodeLedger> Service for HubService<'a, R, J, A> {
+impl<'a, R, J: Naming, A: NodeLedger> HubService<'a, R, J, A> {
+    ghost use Rattle.ring_records.specs.declared.request.Request.TheVariants as ask;
     ghost use Rattle.ring_service.specs.Services.{HubAnswers};
 
-    ghost answers = { HubAnswers A.member A.opening };
-
-    fn stand(&mut self, key: Key, bid: Bid) -> Result<Reply, Refusal> {
-        self.ask(Request::Stand(key, bid))
-    }
-
-    fn retire(&mut self, group: &GroupName, floor: Term) -> Result<Reply, Refusal> {
-        self.ask(Request::Retire(*group, floor))
-    }
-
-    fn who(&mut self, key: &Key) -> Result<Reply, Refusal> {
+    // Reads who leads for the key.
+    fn read_leader(&mut self, key: &Key) -> Result<Reply, Refusal>
+        ensures { HubAnswers A.member A.opening self.old (ask.Who key.now) result self.new }
+    {
         match self.reader.who(key) {
             Ok(leader) => Ok(Reply::Leader(leader)),
             Err(refusal) => Err(refusal),
         }
     }
 
-    fn latest(&mut self, group: &GroupName) -> Result<Reply, Refusal> {
+    // Reads the greatest term of the group with a known leader.
+    fn read_latest(&mut self, group: &GroupName) -> Result<Reply, Refusal>
+        ensures { HubAnswers A.member A.opening self.old (ask.Latest group.now) result self.new }
+    {
         match self.reader.latest(group) {
             Ok(latest) => Ok(Reply::Latest(latest)),
             Err(refusal) => Err(refusal),
+        }
+    }
+}
+
+impl<'a, R: Wait, J: Naming, A: NodeLedger> Service for HubService<'a, R, J, A> {
+    ghost use Rattle.ring_service.specs.Services.{HubAnswers};
+
+    ghost answers = { HubAnswers A.member A.opening };
+
+    fn ask(&mut self, question: Question) -> Result<Reply, Refusal> {
+        match question {
+            Question::Stand(key, bid) => self.ask_hub(Request::Stand(key, bid)),
+            Question::Retire(group, floor) => self.ask_hub(Request::Retire(group, floor)),
+            Question::Who(key) => self.read_leader(&key),
+            Question::Latest(group) => self.read_latest(&group),
         }
     }
 }

@@ -196,24 +196,36 @@ pub fn check_ring<R: Files<File = File>, O: Write>(
     tell_ring(alloc, &found, leaders, out)
 }
 
-/// Makes the nodes that are not there, as a start does, and serves nothing. Where it is refused, what it made is gone.
-/// An identity that is asked for is that of a ring that was made before.
-pub fn make_ring<R: Files<File = File>, C: Clock, E: Write>(
+/// Makes the nodes that are not there, as a start does, and serves nothing; prints the ring's identity, where it has one. Where
+/// it is refused, what it made is gone, but for a line that is not printed. An identity that is asked for is that of a ring that
+/// was made before.
+pub fn make_ring<R: Files<File = File>, C: Clock, O: Write, E: Write>(
     rt: &R,
     alloc: Global,
     dir: &str,
     target: &Target,
     version: &str,
+    out: &mut O,
     log: &mut Log<'_, C, E>,
 ) -> Result<u8, RingFault> {
     let basis = Basis::open(rt, alloc, dir, target)?;
     let found = basis.find(rt, false, log)?;
     let mut begun = Vec::new(alloc);
     match basis.make_ready(rt, version, found, &mut begun, log) {
-        Ok(_) => Ok(0),
+        Ok(_) => print_identity(basis.identity(rt), out),
         Err(fault) => {
             basis.take_back(rt, &begun);
             Err(fault)
         }
     }
+}
+
+/// Prints the identity, where there is one: the status to end with.
+fn print_identity<O: Write>(identity: Option<Identity>, out: &mut O) -> Result<u8, RingFault> {
+    if let Some(identity) = identity {
+        if writeln!(out, "ring {identity}").is_err() || out.flush().is_err() {
+            return Err(RingFault::Output);
+        }
+    }
+    Ok(0)
 }

@@ -62,25 +62,27 @@ fn is_journal(rt: &HostRuntime) -> bool {
 fn main(rt: HostRuntime) -> ExitCode {
     let _held = hold_streams(&rt);
     let alloc = rt.alloc();
+    let is_journal = is_journal(&rt);
+    // the level of an error
+    let mark = if is_journal { "<3>" } else { "" };
     let words = match take_words(&rt) {
         Ok(words) => words,
         Err(NoWords::Text) => {
-            let _ = eprintln!(rt; "ringd: words are not text");
+            let _ = eprintln!(rt; "{mark}ringd: words are not text");
             return ExitCode::from(2);
         }
         Err(NoWords::Memory) => {
-            let _ = eprintln!(rt; "ringd: out of memory");
+            let _ = eprintln!(rt; "{mark}ringd: out of memory");
             return ExitCode::FAILURE;
         }
     };
     let Ok(texts) = texts_of(alloc, &words) else {
-        let _ = eprintln!(rt; "ringd: out of memory");
+        let _ = eprintln!(rt; "{mark}ringd: out of memory");
         return ExitCode::FAILURE;
     };
     let mut input = rt.reader();
     let mut out = io::writer(&rt);
     let mut err = rt.stderr();
-    let is_journal = is_journal(&rt);
     let status = start(
         &rt,
         alloc,

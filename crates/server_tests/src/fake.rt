@@ -11,6 +11,8 @@ use std::rt::Files;
 pub enum Lack {
     Sync,
     Write,
+    /// It takes each write, and no sync.
+    Store,
 }
 
 /// What is opened at the call of this number, from 1 on, of those that open this path, lacks this.
@@ -23,6 +25,9 @@ pub struct Trick {
 
 /// A folder that the system refuses to sync.
 const UNSYNCED: &str = "/proc/self";
+
+/// What takes each write, and no sync.
+const UNSTORED: &str = "/dev/null";
 
 /// The files of another one. The file at `log` gets a line for each call that opens, renames or removes.
 #[derive(Drop)]
@@ -61,6 +66,7 @@ impl<R: Files<File = File>> Files for Fake<'_, R> {
             _ if turn != self.trick.turn => Ok(file),
             Lack::Sync => File::open(self.files, UNSYNCED),
             Lack::Write => File::open(self.files, path),
+            Lack::Store => OpenOptions::new().write(true).open(self.files, UNSTORED),
         }
     }
 

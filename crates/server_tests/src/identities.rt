@@ -1,4 +1,5 @@
 // The identity of a ring, and starts that ask for one.
+use crate::programs::run;
 use crate::steps::Change::{Anew, Clears, Copies, Has, IsCopy, Removes, Writes};
 use crate::steps::Step::{Changes, Ends, Serves};
 use crate::steps::{CHECK, Step, anew, plays};
@@ -91,8 +92,11 @@ const OTHER_WORDS: &[u8] =
 #[test]
 fn each_ring_has_another_identity(rt: HostRuntime) {
     anew(&rt, "drawn");
-    plays(&rt, &[Ends(MAKE, DRAWN, 0, b"")]);
+    let ended = run(&rt, MAKE, DRAWN);
     let first = made(&rt, "drawn/ring.id");
+    let told = format!(in rt.alloc(); "ring {first}\n").expect(&rt, "ample memory");
+    assert!(&rt; ended.status == 0);
+    assert!(&rt; ended.out.ends_with(told.as_bytes()));
     // it stays where the mark is made anew
     plays(
         &rt,

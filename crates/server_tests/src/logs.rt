@@ -1,5 +1,5 @@
 // What stands before the lines on standard error.
-use crate::programs::run;
+use crate::programs::{run, run_beside};
 use crate::steps::Change::{Anew, Clears, Writes};
 use crate::steps::Step::{Changes, Ends};
 use crate::steps::{Step, anew, plays};
@@ -50,6 +50,13 @@ static LEVELS: [Step; 7] = [
 fn lines_with_their_levels(rt: HostRuntime) {
     plays(&rt, &LEVELS);
     plays(&rt, &[Changes(&[Clears("logged")])]);
+}
+
+#[test]
+fn wrong_words_have_a_level(rt: HostRuntime) {
+    let ended = run_beside(&rt, &["ringd", "--nothing"], b"", true);
+    assert!(&rt; ended.status == 2);
+    assert!(&rt; ended.err.starts_with(b"<3>error: "));
 }
 
 /// Whether a line is of this form, with this text behind the time: `2026-11-29T09:41:39Z`.

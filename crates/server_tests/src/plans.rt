@@ -40,7 +40,7 @@ fn made<R: Abort + AllocGlobal + Clock + Files<File = File>>(
     let Ok(settings) = read_settings(rt.alloc(), settings) else {
         panic!(rt; "settings that are taken");
     };
-    let mut err = Vec::new(rt.alloc());
+    let (mut out, mut err) = (Vec::new(rt.alloc()), Vec::new(rt.alloc()));
     let mut log = Log::new(rt, &mut err, LogForm::Plain);
     let target = Target {
         nodes: settings.nodes,
@@ -53,6 +53,7 @@ fn made<R: Abort + AllocGlobal + Clock + Files<File = File>>(
         settings.dir.as_str(),
         &target,
         VERSION,
+        &mut out,
         &mut log,
     ) {
         Ok(_) => None,
@@ -141,6 +142,43 @@ fn names_that_are_not_synced(rt: HostRuntime) {
     assert!(&rt; unopened.told == Some(Told::Fault(Place::Folder, UNSYNCED)));
     listed(&rt, "unnamed.log", UNNAMED);
     fs::remove_dir(&rt, "unnamed").expect(&rt, "an empty folder");
+}
+
+const UNSIGNED: &[u8] = b"open unsigned
+remove unsigned/node-1.crj.new
+open unsigned/node-1.crj.new
+open unsigned
+rename unsigned/node-1.crj.new
+remove unsigned/node-2.crj.new
+open unsigned/node-2.crj.new
+open unsigned
+rename unsigned/node-2.crj.new
+open unsigned/ring.id
+open /dev/urandom
+open unsigned/ring.id
+remove unsigned/node-1.crj.new
+remove unsigned/node-1.crj
+remove unsigned/node-2.crj.new
+remove unsigned/node-2.crj
+remove unsigned/ring.id
+";
+
+/// The identity is on the disk before its name is.
+#[test]
+fn an_identity_that_is_not_synced(rt: HostRuntime) {
+    anew(&rt, "unsigned");
+    let settings = "nodes = 2\ndir = \"unsigned\"\nport = 7333\ncapacity = 4096\n";
+    let trick = Trick {
+        path: "unsigned/ring.id",
+        turn: 2,
+        lack: Lack::Store,
+    };
+    let Some(unopened) = made(&rt, settings, "unsigned.log", trick) else {
+        panic!(&rt; "not refused");
+    };
+    assert!(&rt; unopened.told == Some(Told::Fault(Place::Identity, UNSYNCED)));
+    listed(&rt, "unsigned.log", UNSIGNED);
+    fs::remove_dir(&rt, "unsigned").expect(&rt, "an empty folder");
 }
 
 const UNSTABLE: &[u8] = b"open unstable

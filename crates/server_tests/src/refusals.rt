@@ -22,6 +22,11 @@ const NO_FILE: &[&str] = &["ringd", "--settings", "no-such-file"];
 
 const UNREAD: &[u8] = b"ringd: settings cannot be read\n";
 
+const NOT_THERE: &[u8] = b"ringd: settings cannot be read\n\
+    ringd: no-such-file: open: No such file or directory (os error 2)\n";
+
+const NO_NODES: &[u8] = b"ringd: setting nodes is missing\nringd: nodes is a number from 2 to 16\n";
+
 /// What the settings are, and what is told of them.
 static SETTINGS: [(&[u8], &[u8]); 11] = [
     (
@@ -33,12 +38,16 @@ static SETTINGS: [(&[u8], &[u8]); 11] = [
         b"ringd: settings are not TOML\nringd: line 3 of the settings\n",
     ),
     (b"\xff", UNREAD),
-    (b"", b"ringd: setting nodes is missing\n"),
+    (b"", NO_NODES),
     (
         b"nodes = 17",
         b"ringd: setting nodes is wrong\nringd: nodes is a number from 2 to 16\n",
     ),
-    (b"nodes = 3", b"ringd: setting dir is missing\n"),
+    (
+        b"nodes = 3",
+        b"ringd: setting dir is missing\n\
+          ringd: dir is a path of 1 to 200 printed ASCII characters, none of them a space\n",
+    ),
     (
         b"nodes = 3\ndir = 1",
         b"ringd: setting dir is wrong\n\
@@ -46,7 +55,8 @@ static SETTINGS: [(&[u8], &[u8]); 11] = [
     ),
     (
         b"nodes = 3\ndir = \"a\"",
-        b"ringd: setting port is missing\n",
+        b"ringd: setting port is missing\n\
+          ringd: port is a number from 1 to 65535, as is the port of the last node\n",
     ),
     (
         b"nodes = 3\ndir = \"a\"\nport = 65534\n",
@@ -70,14 +80,11 @@ fn settings_that_are_refused(rt: HostRuntime) {
         let (settings, text) = *row;
         plays(&rt, &[Ends(NONE, settings, 2, text)]);
     }
-    plays(&rt, &[Ends(NO_FILE, b"", 2, UNREAD)]);
+    plays(&rt, &[Ends(NO_FILE, b"", 2, NOT_THERE)]);
 }
 
 /// How long settings are that are one comment, and what is told of them.
-static LENGTHS: [(usize, &[u8]); 2] = [
-    (1_000_000, b"ringd: setting nodes is missing\n"),
-    (1_000_001, UNREAD),
-];
+static LENGTHS: [(usize, &[u8]); 2] = [(1_000_000, NO_NODES), (1_000_001, UNREAD)];
 
 #[test]
 fn settings_have_a_million_bytes_at_most(rt: HostRuntime) {

@@ -1,4 +1,4 @@
-// A hub that lets go of its inputs behind a checkpoint, and goes on.
+// A hub that lets go of its inputs behind a checkpoint, as each round does, and goes on.
 use crate::hubs::{Play, ends_settled};
 use crate::rows::{empty_device, told_by};
 use crate::station::Step;
@@ -23,26 +23,21 @@ const STAND_GREEN: Ask = Ask::Stand("green", 1, 3);
 /// What comes behind the checkpoint.
 const BEHIND: Op = Op::Stand("green", 1, 3);
 
-/// A Stand, a leader and 70 messages are durable by a checkpoint, and are let go of; before that there is nothing to let go
-/// of, nor is there at once behind it. A Stand follows in a batch, and the node tells what it knew before.
+/// A Stand, a leader and 70 messages are durable by a checkpoint, and are let go of; a batch before lets go of nothing. A Stand
+/// follows in a batch, and the node tells what it knew before.
 const LETS_GO: &[Step] = &[
-    LetsGo,
     Submits(STAND_RED),
     Rounds(0, 1, 0),
-    LetsGo,
     Redeems,
     Submits(RED),
     Takes(1, 71),
     IsDue(true),
     Rounds(1, 71, 1),
     Epoch(2),
-    LetsGo,
-    LetsGo,
     Redeems,
     Submits(STAND_GREEN),
     Rounds(72, 1, 0),
     Redeems,
-    LetsGo,
     Submits(Ask::Who("red", 5)),
     Redeems,
     Closes,
@@ -55,7 +50,6 @@ const FORGETS: &[Step] = &[
     Submits(RED),
     Takes(1, 71),
     Rounds(0, 72, 1),
-    LetsGo,
     Redeems,
     Redeems,
     Closes,
@@ -68,14 +62,12 @@ const LETS_GO_TWICE: &[Step] = &[
     Submits(RED),
     Takes(1, 71),
     Rounds(0, 72, 1),
-    LetsGo,
     Redeems,
     Redeems,
     Takes(71, 145),
     IsDue(true),
     Rounds(72, 74, 0),
     Epoch(3),
-    LetsGo,
     Submits(STAND_GREEN),
     Rounds(146, 1, 0),
     Redeems,

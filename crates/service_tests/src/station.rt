@@ -51,8 +51,6 @@ pub enum Step {
     Used(u64),
     /// Whether a checkpoint is due.
     IsDue(bool),
-    /// The hub lets go of the inputs that the area in use stands for.
-    LetsGo,
 }
 
 /// A hub, its flusher, a client, the tickets that are open, oldest first, and what the gate was told.
@@ -113,7 +111,6 @@ impl<V: Device, J: Naming, A: NodeLedger> Station<V, J, A> {
             Step::Epoch(epoch) => assert!(rt; self.flusher.epoch() == epoch),
             Step::Used(bytes) => assert!(rt; self.hub.look(rt).used == bytes),
             Step::IsDue(is_due) => assert!(rt; self.hub.look(rt).is_due == is_due),
-            Step::LetsGo => self.flusher.let_go(rt, &self.hub),
         }
     }
 

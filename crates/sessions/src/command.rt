@@ -1,10 +1,11 @@
 // A line to a command, or to its first fault.
-ghost use Rattle.std.specs.Prelude.{◌≡◌, ◌∷◌, [], map, IfOk};
+ghost use Rattle.std.specs.Prelude.{ℕ, ◌≡◌, ◌∷◌, [], map, false, IfOk};
 ghost use Rattle.line_words.specs.Forms.{form_says, line_says};
-ghost use Rattle.sessions.specs.Commands.{commands};
+ghost use Rattle.ring_records.specs.Outside.{is_outside};
+ghost use Rattle.sessions.specs.Commands.{commands, request_of};
 
 use line_words::{read_bid, read_group, read_term, read_words};
-use ring_records::{Bid, GroupName, Key, Refusal, Term};
+use ring_records::{Bid, GroupName, Key, Refusal, Request, Term};
 use std::alloc::{AllocError, Global};
 
 /// What a client asks.
@@ -18,6 +19,21 @@ pub enum Question {
     Who(Key),
     /// The greatest term of a group with a known leader, and that leader.
     Latest(GroupName),
+}
+
+impl Question {
+    /// The request that it is. It brings nothing from a neighbour.
+    pub fn request(self) -> Request
+        ensures is { result ≡ request_of self }
+        ensures inside { (n : ℕ) → is_outside n result ≡ false }
+    {
+        match self {
+            Question::Stand(key, bid) => Request::Stand(key, bid),
+            Question::Retire(group, floor) => Request::Retire(group, floor),
+            Question::Who(key) => Request::Who(key),
+            Question::Latest(group) => Request::Latest(group),
+        }
+    }
 }
 
 /// What a line says.

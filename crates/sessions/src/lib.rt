@@ -18,6 +18,7 @@ mod service;
 mod session;
 mod solo;
 
+pub use command::Question;
 pub use service::Service;
 pub use session::{SessionFault, serve};
 pub use solo::SoloService;

@@ -15,17 +15,6 @@ use ring_records::{Refusal, Reply};
 use std::alloc::{AllocError, Global};
 use std::io::Write;
 
-fn ask<S: Service>(service: &mut S, question: Question) -> Result<Reply, Refusal>
-    ensures { S.answers service.old (request_of question) result service.new }
-{
-    match question {
-        Question::Stand(key, bid) => service.stand(key, bid),
-        Question::Retire(group, floor) => service.retire(&group, floor),
-        Question::Who(key) => service.who(&key),
-        Question::Latest(group) => service.latest(&group),
-    }
-}
-
 fn print_answer(out: &mut String, answer: Result<Reply, Refusal>) -> Result<(), AllocError>
     ensures { OnOk result (AddsLine (string_bytes out.old) (string_bytes out.new) (answer_text answer)) }
 {
@@ -43,7 +32,7 @@ fn ask_and_print<S: Service>(
     ensures { (answer : Option Answer) × Replied S.answers service.old (Some (request_of question)) answer service.new
         × OnOk result (AddsLine (string_bytes out.old) (string_bytes out.new) (told answer)) }
 {
-    let answer = ask(service, question);
+    let answer = service.ask(question);
     print_answer(out, answer)
 }
 

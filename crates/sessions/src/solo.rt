@@ -11,10 +11,11 @@ ghost use Rattle.ring_records.specs.States.{is_idle, opened};
 ghost use Rattle.ring_records.specs.Outside.{is_outside};
 
 use crate::Service;
+use crate::command::Question;
 use disk_model::Device;
 use group_commit::Ticket;
 use node_store::Node;
-use ring_records::{Bid, GroupName, Key, Refusal, Reply, Request, Term};
+use ring_records::{Refusal, Reply, Request};
 use std::mem::replace;
 
 /// A service over one node, which flushes it until nothing waits before it answers. Refused as 6 and as 8, the node is
@@ -84,20 +85,8 @@ impl<D: Device> Service for SoloService<D> {
 
     ghost answers = { SoloAnswers D.count };
 
-    fn stand(&mut self, key: Key, bid: Bid) -> Result<Reply, Refusal> {
-        self.answer(Request::Stand(key, bid))
-    }
-
-    fn retire(&mut self, group: &GroupName, floor: Term) -> Result<Reply, Refusal> {
-        self.answer(Request::Retire(*group, floor))
-    }
-
-    fn who(&mut self, key: &Key) -> Result<Reply, Refusal> {
-        self.answer(Request::Who(*key))
-    }
-
-    fn latest(&mut self, group: &GroupName) -> Result<Reply, Refusal> {
-        self.answer(Request::Latest(*group))
+    fn ask(&mut self, question: Question) -> Result<Reply, Refusal> {
+        self.answer(question.request())
     }
 }
 

@@ -1,6 +1,6 @@
 // Services, readers and writers that a test can look into.
-use ring_records::{Bid, Candidate, GroupName, Key, NodeNo, Refusal, Reply, Term};
-use sessions::Service;
+use ring_records::{Bid, Candidate, NodeNo, Refusal, Reply, Term};
+use sessions::{Question, Service};
 use std::cell::Cell;
 use std::io::{self, ErrorKind, Read, Write};
 
@@ -25,19 +25,7 @@ impl<'a> Parrot<'a> {
 impl<'a> Service for Parrot<'a> {
     ghost answers = { λ s q r t. Unit {0} };
 
-    fn stand(&mut self, _key: Key, _bid: Bid) -> Result<Reply, Refusal> {
-        self.next()
-    }
-
-    fn retire(&mut self, _group: &GroupName, _floor: Term) -> Result<Reply, Refusal> {
-        self.next()
-    }
-
-    fn who(&mut self, _key: &Key) -> Result<Reply, Refusal> {
-        self.next()
-    }
-
-    fn latest(&mut self, _group: &GroupName) -> Result<Reply, Refusal> {
+    fn ask(&mut self, _question: Question) -> Result<Reply, Refusal> {
         self.next()
     }
 }

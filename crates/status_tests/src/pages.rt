@@ -54,14 +54,14 @@ fn a_ring(rt: HostRuntime) -> Result<(), Fail> {
             "<h1>a&lt;b</h1>\n<p>ringd 0.1.0 for 1 d 1 h 1 min. It cannot elect.</p>\n",
             "<pre>node 2 limit\nnode 3 hangs\nnode 1 has no door free\nhelp: see the disk\n</pre>\n",
             "<svg ",
-            "rotate(0) translate(0 -180) rotate(-0)\"><circle class=\"well\"",
+            "rotate(0) translate(0 -220) rotate(-0)\"><circle class=\"well\"",
             "pathLength=\"65536\" stroke-dasharray=\"1234 65536\"",
-            "<text>1</text><text y=\"12\">well</text><text y=\"38\">9 waiting</text>\n<title>3 of 4 doors busy, last checkpoint 21 s ago, \
-             leads: red</title></g>\n",
+            "<text>1</text><text y=\"12\">well</text><text y=\"38\">9 waiting</text>\n<text y=\"49\">3 of 4 doors \
+             busy</text><text y=\"60\">checkpoint 21 s ago</text><title>leads: red</title></g>\n",
             "leads: blue</title></g>\n",
             "leads:</title></g>\n",
-            "rotate(120) translate(0 -180) rotate(-120)\"><circle class=\"limit\"",
-            "rotate(240) translate(0 -180) rotate(-240)\"><circle class=\"hangs\"",
+            "rotate(120) translate(0 -220) rotate(-120)\"><circle class=\"limit\"",
+            "rotate(240) translate(0 -220) rotate(-240)\"><circle class=\"hangs\"",
             "</svg>\n<table>\n",
             "<tr class=\"well\"><th>1</th><td>7101</td><td>well</td>\n<td>30</td><td>29</td>\n<td><meter max=\"65536\" \
              value=\"1234\"></meter> 1234 of 65536</td>\n<td>9</td><td>3 of 4</td><td>1017</td>\n<td>21 s ago</td><td>12 s</td></tr>\n",

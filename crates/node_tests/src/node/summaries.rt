@@ -8,6 +8,7 @@ use ring_records::{EPOCHS, LAYOUT, Room};
 fn snapshot(rt: &impl Abort, alloc: Global, core: &NodeCore) -> Vec<u8> {
     let summary = core.summary(alloc).expect(rt, "ample memory");
     let bytes = written(rt, alloc, &summary);
+    drop(summary);
     assert!(rt; core.summary_len() == (bytes.len() as u64));
     bytes
 }
@@ -23,6 +24,7 @@ fn restored(rt: &impl Abort, alloc: Global, capacity: u32, bytes: &[u8]) -> Node
     let from = read(rt, alloc, bytes);
     assert!(rt; from.floors.len() <= u32::MAX as usize, "few floors");
     let core = NodeCore::restore(alloc, node(rt, 2), 3, capacity, room, &from);
+    drop(from);
     core.expect(rt, "ample memory")
 }
 
@@ -82,6 +84,7 @@ fn accepts_alike(rt: &impl Abort, alloc: Global, core: &mut NodeCore, op: Op) {
     assert!(rt; other.used() == (bytes.len() as u64 + input.cost() as u64));
     other.rebase(2);
     show_alike(rt, core, &other);
+    drop((bytes, other));
 }
 
 /// Each input of the history finds a node that is restored from its summary as good as the first one.
@@ -90,6 +93,7 @@ fn goes_on(rt: &impl Abort, alloc: Global, ops: &[Op]) {
     for op in ops {
         accepts_alike(rt, alloc, &mut core, *op);
     }
+    drop(core);
 }
 
 static ELECTED: [Op; 7] = [
@@ -151,6 +155,7 @@ fn a_snapshot_has_the_bytes_of_its_keys_and_its_window(rt: HostRuntime) {
         accept_all(&rt, &mut core, &[op]);
         assert!(rt; core.summary_len() == len);
     }
+    drop(core);
 }
 
 /// Restored with this capacity from its snapshot of 69 bytes, the node judges a credit so.
@@ -158,6 +163,7 @@ fn takes(rt: &impl Abort, alloc: Global, capacity: u32, bytes: &[u8], refused: O
     let core = restored(rt, alloc, capacity, bytes);
     assert!(rt; core.used() == 69);
     assert!(rt; core.admit(&input(rt, Acked(1))).err() == refused);
+    drop(core);
 }
 
 #[test]
@@ -167,6 +173,7 @@ fn a_snapshot_takes_its_bytes_of_the_capacity(rt: HostRuntime) {
     takes(&rt, rt.alloc(), 68, &bytes, Some(Refusal::Full));
     takes(&rt, rt.alloc(), 84, &bytes, Some(Refusal::Full));
     takes(&rt, rt.alloc(), 85, &bytes, None);
+    drop((core, bytes));
 }
 
 static WON: [Op; 2] = [Stand("red", 9, 5), Take(0, Token("red", 9, 5, 2))];
@@ -243,4 +250,5 @@ fn a_floor_has_room_in_earlier_layouts(rt: HostRuntime) {
     for case in &ROOMS {
         has_room(&rt, rt.alloc(), &bytes, case);
     }
+    drop((core, bytes));
 }
