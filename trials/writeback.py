@@ -110,7 +110,8 @@ class Case(NamedTuple):
 
 CASES = [Case(kind, call, size) for size in CAPACITIES
          for kind, calls in (("batch", [4]), ("checkpoint", [2, 4, 6]), ("start", [2, 4, 6])) for call in calls]
-CASES += [Case(kind, call, "", cut, retires) for cut in CUT for kind in ("checkpoint", "start") for call in (2, 4, 6)
+CASES += [Case(kind, call, "", cut, retires) for cut in CUT
+          for kind, calls in (("batch", [4]), ("checkpoint", [2, 4, 6]), ("start", [2, 4, 6])) for call in calls
           for retires in (False, True)]
 
 

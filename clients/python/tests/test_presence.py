@@ -123,6 +123,9 @@ class PresenceTest(Beside, BesideStatus):
         with self.lock(ring, patience=0.0) as third:
             self.assertEqual((third.term, said), (3, []))
 
+    def test_how_long_who_is_gone_is_waited_for(self) -> None:
+        self.assertEqual(presence.ABSENT, 2.0)
+
     def test_who_is_absent_for_two_seconds_is_gone_whatever_the_patience(self) -> None:
         ring, nodes = self.votes_ring()
         for patience, least, most in ((60.0, 1.0, 3.0), (0.0, 0.0, 0.8)):

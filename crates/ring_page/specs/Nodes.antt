@@ -1,5 +1,5 @@
 -- What is told of each node, in the table and in the picture.
-use Rattle.std.specs.Prelude.{ℕ, ◌==◌, if◌then◌else◌, ◌-◌, ◌*◌, ◌/◌, max, List, ◌++◌, length, codes}
+use Rattle.std.specs.Prelude.{ℕ, ◌==◌, if◌then◌else◌, ◌-◌, ◌*◌, ◌/◌, max, List, [], ◌++◌, length, codes}
 use Rattle.std.specs.Fmt.{decimal}
 use Rattle.std.specs.List.{flat_map}
 use Rattle.ring_records.specs.declared.decision.Decision.{Decision}

@@ -1,8 +1,9 @@
 // What stands before the lines on standard error.
-use crate::programs::{run, run_beside};
+use crate::programs::{Ring, Scenario, run, run_beside, runs};
 use crate::steps::Change::{Anew, Clears, Writes};
 use crate::steps::Step::{Changes, Ends};
 use crate::steps::{Step, anew, plays};
+use crate::visits::Visit;
 use log_lines::{Level, LogForm, Prefix};
 use std::test::*;
 use std::{fs, str};
@@ -57,6 +58,38 @@ fn wrong_words_have_a_level(rt: HostRuntime) {
     let ended = run_beside(&rt, &["ringd", "--nothing"], b"", true);
     assert!(&rt; ended.status == 2);
     assert!(&rt; ended.err.starts_with(b"<3>error: "));
+}
+
+const ENDING: Scenario = Scenario {
+    ring: Ring::Program(
+        &["ringd", "--serve", "1", "--log", "journal"],
+        b"nodes = 2\ndir = \"ending\"\nport = 7421\n",
+    ),
+    visits: [
+        &[
+            Visit::Asks(7421, b"who red 1\n", b"none"),
+            Visit::Asks(7422, b"who red 1\n", b"none"),
+        ],
+        &[],
+        &[],
+    ],
+    status: 0,
+    out: b"",
+    err: Some(
+        b"<6>ringd: version 0.1.0, layout 3\n\
+        <6>ringd: the ring is 00112233445566778899aabbccddeeff\n\
+        <6>ringd: ends, as all doors are done\n",
+    ),
+};
+
+#[test]
+fn the_end_is_told(rt: HostRuntime) -> Result<(), Fail> {
+    anew(&rt, "ending");
+    let identity = b"00112233445566778899aabbccddeeff\n";
+    fs::write(&rt, "ending/ring.id", identity.as_slice())?;
+    runs(&rt, &ENDING);
+    fs::remove_dir_all(&rt, "ending")?;
+    Ok(())
 }
 
 /// Whether a line is of this form, with this text behind the time: `2026-11-29T09:41:39Z`.

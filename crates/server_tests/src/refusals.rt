@@ -22,7 +22,7 @@ const NO_FILE: &[&str] = &["ringd", "--settings", "no-such-file"];
 
 const UNREAD: &[u8] = b"ringd: settings cannot be read\n";
 
-const NOT_THERE: &[u8] = b"ringd: settings cannot be read\n\
+const NO_SUCH_FILE: &[u8] = b"ringd: settings cannot be read\n\
     ringd: no-such-file: open: No such file or directory (os error 2)\n";
 
 const NO_NODES: &[u8] = b"ringd: setting nodes is missing\nringd: nodes is a number from 2 to 16\n";
@@ -80,7 +80,7 @@ fn settings_that_are_refused(rt: HostRuntime) {
         let (settings, text) = *row;
         plays(&rt, &[Ends(NONE, settings, 2, text)]);
     }
-    plays(&rt, &[Ends(NO_FILE, b"", 2, NOT_THERE)]);
+    plays(&rt, &[Ends(NO_FILE, b"", 2, NO_SUCH_FILE)]);
 }
 
 /// How long settings are that are one comment, and what is told of them.
