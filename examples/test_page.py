@@ -98,7 +98,7 @@ class PageTest(unittest.TestCase):
     def words(self, folder: str, port: int, path: str, *words: str) -> list[str]:
         """What starts the browser. It knows no host but this one."""
         return [CHROMIUM, "--headless", "--no-sandbox", "--disable-gpu", "--disable-dev-shm-usage", f"--user-data-dir={folder}",
-                "--host-resolver-rules=MAP * ~NOTFOUND, EXCLUDE 127.0.0.1", "--window-size=900,860", *words,
+                "--host-resolver-rules=MAP * ~NOTFOUND, EXCLUDE 127.0.0.1", "--window-size=980,1010", *words,
                 f"http://127.0.0.1:{port}{path}"]
 
     def browse(self, path: str, *words: str) -> str:
@@ -116,7 +116,9 @@ class PageTest(unittest.TestCase):
         self.assertNotIn("script", page.tags)
         self.assertEqual(page.links, ["data:,", "/groups/red"])
         self.assertIn("It can elect.", "".join(page.texts))
-        self.assertEqual(len([text for text in page.texts if re.fullmatch(r"\d+ waiting", text)]), 3)
+        for form in (r"\d+ waiting", r"\d of 4 doors busy", r"checkpoint \d+ s ago", r"\d+ s ago"):
+            self.assertEqual(len([text for text in page.texts if re.fullmatch(form, text)]), 3, form)
+        self.assertEqual(sorted(text for text in page.texts if text.startswith("leads:")), ["leads:", "leads:", "leads: red"])
         if kept := os.environ.get("SCREENSHOT"):
             self.browse("/", f"--screenshot={kept}")
             self.assertTrue(pathlib.Path(kept).read_bytes().startswith(b"\x89PNG"))
