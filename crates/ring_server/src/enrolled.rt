@@ -1,4 +1,6 @@
 //! A service whose client is known to be there.
+ghost use Rattle.sessions.specs.Commands.{request_of};
+
 use crate::event::Event;
 use crate::links::Links;
 use ring_records::{Bid, GroupName, Key, Refusal, Reply, Term};
@@ -84,6 +86,21 @@ impl<'a, R: Wait, S: Service> EnrolledService<'a, R, S> {
     }
 }
 
+impl<R: Wait, S: Service> EnrolledService<'_, R, S> {
+    /// Asks the service behind it, and tells who is to hear of the answer.
+    fn ask_and_hear(&mut self, question: &Question) -> Result<Reply, Refusal>
+        ensures { S.answers self.old.service (request_of question.now) result self.new.service }
+    {
+        let answer = self.service.ask(*question);
+        match question {
+            Question::Stand(key, bid) => self.hear_stand(key, *bid, &answer),
+            Question::Retire(group, floor) => self.hear_retire(group, *floor, &answer),
+            Question::Who(_) | Question::Latest(_) => {}
+        }
+        answer
+    }
+}
+
 /// Whether the answer says that its node stands with this bid.
 fn is_own(answer: &Result<Reply, Refusal>, bid: Bid) -> bool {
     match answer {
@@ -97,12 +114,6 @@ impl<R: Wait, S: Service> Service for EnrolledService<'_, R, S> {
     ghost answers = { λ before asked answer after. S.answers before.service asked answer after.service };
 
     fn ask(&mut self, question: Question) -> Result<Reply, Refusal> {
-        let answer = self.service.ask(question);
-        match question {
-            Question::Stand(key, bid) => self.hear_stand(&key, bid, &answer),
-            Question::Retire(group, floor) => self.hear_retire(&group, floor, &answer),
-            Question::Who(_) | Question::Latest(_) => {}
-        }
-        answer
+        self.ask_and_hear(&question)
     }
 }

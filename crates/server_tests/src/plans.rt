@@ -82,6 +82,7 @@ open planned/ring.id
 open /dev/urandom
 open planned/ring.id
 open planned/ring.made
+open planned/ring.id
 ";
 
 #[test]
@@ -170,7 +171,7 @@ fn an_identity_that_is_not_synced(rt: HostRuntime) {
     let settings = "nodes = 2\ndir = \"unsigned\"\nport = 7333\ncapacity = 4096\n";
     let trick = Trick {
         path: "unsigned/ring.id",
-        turn: 2,
+        turn: 1,
         lack: Lack::Store,
     };
     let Some(unopened) = made(&rt, settings, "unsigned.log", trick) else {
