@@ -17,11 +17,12 @@ use Rattle.ring_records.specs.Objection.{retired}
 use Rattle.ring_records.specs.Answer.{Rule, Answer, Answers, unless, reply}
 use Rattle.ring_records.specs.Emission.{sent}
 use Rattle.ring_records.specs.History.{message_of, taken}
-use Rattle.ring_records.specs.Leader.{leader}
+use Rattle.ring_records.specs.Leader.{leader, latest}
 use Rattle.ring_records.specs.Lists.{EachAfter}
 use Rattle.ring_records.specs.Place.{before}
 use Rattle.ring_records.proofs.Growth.{sent-kept}
 use Rattle.ring_records.proofs.History.{taken-push}
+use Rattle.ring_records.proofs.Leader.{latest-leads}
 use Rattle.ring_records.proofs.Lists.{along, none≢some, Contains-option_cases, Contains-slice_get}
 use Rattle.ring_records.proofs.OneKey.{none_in}
 use Rattle.history_laws.specs.Linked.{AreHanded, AreLinked, IsLeaderIn}
@@ -75,3 +76,15 @@ replied_in n rule history i begun rest key c a low high front answers says =
     shown_in n history i upto (drop answers.before begun ++ rest) key c low high
     (sym (append_assoc upto (drop answers.before begun) rest) ∙ (ap (λ (l : List Input). l ++ rest) (take-append-drop answers.before begun) ∙ front))
     (tells (retired upto key) (leader i upto key) c (sym (ap (λ (x : Answer). x.reply) answers.same) ∙ says))
+
+told : (o p : Option (ℕ × Candidate)) → say.Latest o ≡ say.Latest p → o ≡ p
+told o p e = (let q : o ≡ p = cc in q)
+
+pub latest_in : (n : ℕ) (rule : Rule) (history : ℕ → List Input) (i : ℕ) (begun rest : List Input) (key : Key) (c : Candidate) (a : Answer)
+    → 1 ≤ i → i ≤ n → begun ++ rest ≡ history i → Answers i n rule begun (ask.Latest key.group) a → a.reply ≡ say.Latest (Some (key.term, c)) → IsLeaderIn n history key c
+unfolding reply
+latest_in n rule history i begun rest key c a low high front answers says =
+    let upto = take answers.before begun in
+    shown_in n history i upto (drop answers.before begun ++ rest) key c low high
+    (sym (append_assoc upto (drop answers.before begun) rest) ∙ (ap (λ (l : List Input). l ++ rest) (take-append-drop answers.before begun) ∙ front))
+    (latest-leads i upto key.group key.term c (told (latest i upto key.group) (Some (key.term, c)) (sym (ap (λ (x : Answer). x.reply) answers.same) ∙ says)))

@@ -17,7 +17,7 @@ use Rattle.ring_records.specs.Lists.{EachAfter}
 use Rattle.ring_records.specs.Message.{candidate_of}
 use Rattle.ring_records.specs.Place.{before}
 
--- Each history is lawful, whatever there is room for. Each message that a node took names a node, counted from 1, and was
+-- Each history is allowed, whatever there is room for. Each message that a node took names a node, counted from 1, and was
 -- sent by the node before. Of the order of messages and of credits nothing is asked.
 pub record AreLinked (n : ℕ) (history : ℕ → List Input) : Type 0 where
   pub lawful : (i : ℕ) → 1 ≤ i → i ≤ n → EachAfter (IsAllowed i n) [] (history i)
@@ -34,7 +34,7 @@ pub record IsLeaderIn (n : ℕ) (history : ℕ → List Input) (key : Key) (c : 
   pub front : inputs ++ rest ≡ history node
   pub leads : leader node inputs key ≡ Some c
 
--- Each history is lawful, and messages name nodes, as above. Each message that a node took came in a packet that the node
+-- Each history is allowed, and messages name nodes, as above. Each message that a node took came in a packet that the node
 -- before may have released: one that rests on a beginning of that node's history.
 pub record AreHanded (n : ℕ) (history : ℕ → List Input) : Type 0 where
   pub lawful : (i : ℕ) → 1 ≤ i → i ≤ n → EachAfter (IsAllowed i n) [] (history i)

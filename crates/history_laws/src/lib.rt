@@ -1,4 +1,4 @@
-//! Laws of the histories of a ring's nodes, of which each by itself is lawful, and which fit link by link: public functions
+//! Laws of the histories of a ring's nodes, of which each by itself is allowed, and which fit link by link: public functions
 //! with an empty body, whose contracts say what follows from the definitions alone. No program calls them.
 //!
 //! Nothing is asked of the order in which things happened: no run, no schedule, no order of messages, no credits. Nor is
@@ -21,9 +21,9 @@ ghost use Rattle.ring_records.specs.Ring.{IsLegal};
 ghost use Rattle.ring_records.specs.Part.{part};
 ghost use Rattle.history_laws.specs.Linked.{AreHanded, AreLinked, IsLeaderIn};
 
-/// Of lawful histories in which each message that was taken was sent by the node before, all leaders that are known for a
-/// key by beginnings of them are one candidate. It stands in its node's history, and every other candidate that stands
-/// for the key in some node's history is less.
+/// Of allowed histories in which each message that was taken names a node, counted from 1, and was sent by the node before,
+/// all leaders that are known for a key by beginnings of them are one candidate. It stands in its node's history, and every
+/// other candidate that stands for the key in some node's history is less.
 pub fn agreement_of_histories()
     ensures same { (n : ℕ) (history : ℕ → List Input) (key : Key) (c d : Candidate)
         → AreLinked n history → IsLeaderIn n history key c → IsLeaderIn n history key d → c ≡ d }
@@ -33,19 +33,22 @@ pub fn agreement_of_histories()
         → 1 ≤ d.node → d.node ≤ n → Contains (history d.node) (Stand key d.bid) → d ≢ c → IsTrue (is_less d c) }
 {}
 
-/// The parts of a legal run are such histories, so they agree; and each message in them came in a packet that rests on the
-/// inputs that its sender had by then.
+/// The parts of a legal run are such histories, so they agree; and each message in them came in a packet that rests on a
+/// beginning of its sender's part.
 pub fn runs_are_linked()
     ensures linked { (n : ℕ) (run : List (ℕ × Input)) → IsLegal n run → AreLinked n (part run) }
     ensures handed { (n : ℕ) (run : List (ℕ × Input)) → IsLegal n run → AreHanded n (part run) }
 {}
 
-/// Histories whose messages came in released packets are linked. A reply that names a leader, by a beginning of a node's
-/// history, tells of a leader that is known there; so does what such a beginning shows.
+/// Histories whose messages came in released packets are linked. A reply that names a leader, to `who` of its key or to
+/// `latest` of its group, by a beginning of a node's history, tells of a leader that is known there; so does what such a
+/// beginning shows.
 pub fn released_histories()
     ensures linked { (n : ℕ) (history : ℕ → List Input) → AreHanded n history → AreLinked n history }
     ensures replied { (n : ℕ) (rule : Rule) (history : ℕ → List Input) (i : ℕ) (begun rest : List Input) (key : Key) (c : Candidate) (a : Answer)
         → 1 ≤ i → i ≤ n → begun ++ rest ≡ history i → Answers i n rule begun (ask.Who key) a → a.reply ≡ say.Leader (Some c) → IsLeaderIn n history key c }
+    ensures latest { (n : ℕ) (rule : Rule) (history : ℕ → List Input) (i : ℕ) (begun rest : List Input) (key : Key) (c : Candidate) (a : Answer)
+        → 1 ≤ i → i ≤ n → begun ++ rest ≡ history i → Answers i n rule begun (ask.Latest key.group) a → a.reply ≡ say.Latest (Some (key.term, c)) → IsLeaderIn n history key c }
     ensures shown { (n : ℕ) (history : ℕ → List Input) (i : ℕ) (begun rest : List Input) (key : Key) (c : Candidate)
         → 1 ≤ i → i ≤ n → begun ++ rest ≡ history i → leader i begun key ≡ Some c → IsLeaderIn n history key c }
 {}

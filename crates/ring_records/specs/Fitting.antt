@@ -9,7 +9,7 @@ use Rattle.ring_records.specs.History.{taken, credit}
 use Rattle.ring_records.specs.Leader.{leader}
 use Rattle.ring_records.specs.Place.{after}
 
--- node i sent as many messages as the node behind it took, which took as many as node i knows to be taken
+-- node i sent at least as many messages as the node behind it took, which took at least as many as node i knows to be taken
 pub record CountsFit (i : ℕ) (own next : List Input) : Type 0 where
   pub credited : credit own ≤ length (taken next)
   pub sent : length (taken next) ≤ length (sent i own)

@@ -23,6 +23,7 @@ use Rattle.ring_records.proofs.Snapshots.{length-empty}
 use Rattle.ring_audit.specs.Placement.{IsWhole}
 use Rattle.ring_node.specs.declared.flight.Flight.{Flight}
 use Rattle.ring_node.specs.declared.flight.Flight.TheVariants.{Batch, Checkpoint}
+use Rattle.ring_world.specs.Agreement.{IsDrained, IsRetiredNowhere}
 use Rattle.ring_world.specs.Committed.{made_durable, committed_by}
 use Rattle.ring_world.specs.Capacity.{committed, process, state_after, all_fresh}
 use Rattle.ring_world.specs.Acts.{act, IsReleasable, May, MayHappen}
@@ -66,7 +67,7 @@ scheduled n capacity events all = record {
 made : (n capacity : ℕ) (events : List (ℕ × Action)) → committed all_fresh n capacity events ≡ committed all_counted n capacity events
 made n capacity events = ap (λ (start : ℕ → Base). committed start n capacity events) same_start
 
--- what each of three releases formatted
+-- what each of three versions formatted
 layout_formatted : (i : ℕ) → IsFormatted (three_layouts i)
 unfolding snapshot_len
 layout_formatted i = among (nat_eq i 1) (nat_eq i 2)
@@ -98,6 +99,23 @@ election_schedule = scheduled 3 65536 election_events election_each
 pub election_announced : IsAnnounced election_events red_5 winner
 unfolding named
 election_announced = record { node = 3; thing = Shown red_5 winner; released = (63, lit< tt, refl); names = refl }
+
+-- each message that was sent in it was taken, and no term retired
+pub election_drained : IsDrained 3 first_election
+unfolding IsDrained after part item_at found_after first_stand first joined_after floor_for floor is_retired names is_named touched bid_for stood message_of taken is_live_stand is_below is_less is_key is_bid makes_leader first_leader leader passed_on emit sent
+election_drained zero msg low high p = absurd (omega arith)
+election_drained (suc zero) msg low high p = p
+election_drained (suc (suc zero)) msg low high p = p
+election_drained (suc (suc (suc zero))) msg low high p = p
+election_drained (suc (suc (suc (suc i)))) msg low high p = absurd (omega arith)
+
+pub election_live : IsRetiredNowhere 3 first_election red_5
+unfolding IsRetiredNowhere part item_at floor_for floor is_retired is_named is_key
+election_live zero low high = absurd (omega arith)
+election_live (suc zero) low high = refl
+election_live (suc (suc zero)) low high = refl
+election_live (suc (suc (suc zero))) low high = refl
+election_live (suc (suc (suc (suc i)))) low high = absurd (omega arith)
 
 -- with batches, and with checkpoints
 crash_durable : (flight : Flight) → committed all_counted 2 4096 (crash_events (launch flight)) ≡ crash_run

@@ -1,18 +1,27 @@
 -- What is promised of the things that were handed out, where room is counted from what an area of a journal stood for.
-use Rattle.std.specs.Prelude.{ℕ, ◌≡◌, ◌≤◌, List, length, take, Some}
+use Rattle.std.specs.Prelude.{ℕ, ◌≡◌, ◌<◌, ◌≤◌, List, length, take, Some}
 use Rattle.ring_records.specs.declared.base.Base.{Base}
 use Rattle.ring_records.specs.declared.input.Input.{Input}
+use Rattle.ring_records.specs.Admission.{newest, oldest_area}
 use Rattle.ring_records.specs.Lawful.{IsBaseOf}
 use Rattle.ring_records.specs.Answer.{Answered, PacketRests}
 use Rattle.ring_records.specs.Answering.{Answers}
 use Rattle.ring_records.specs.Leader.{leader}
 use Rattle.ring_records.specs.States.{NodeState}
 use Rattle.ring_world.specs.Events.{Thing, Replied, Sent, Shown}
+use Rattle.ring_world.specs.Start.{formatted}
 
--- At some point of h the answer was given, with room counted from what an area may stand for there.
+-- What the journal of some version may stand for. In a layout that has no areas it stands for no input, as it was formatted.
+pub record IsOfSomeVersion (base : Base) : Type 0 where
+  pub least : 1 ≤ base.layout
+  pub most : base.layout ≤ newest
+  pub frames : base.layout < oldest_area → base ≡ formatted base.layout
+
+-- At some point of h the answer was given, with room counted from what some version's journal may stand for there.
 pub record WasAnswered (me n capacity : ℕ) (h : List Input) (a : Answered) : Type 0 where
   pub base : Base
   pub answers : Answers me n capacity base h a.question a.answer
+  pub version : IsOfSomeVersion base
   pub based : IsBaseOf me base (take answers.before h)
 
 -- The thing rests on these inputs, all of them: the request left them with this answer; they sent the message, or hold

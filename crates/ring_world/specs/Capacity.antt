@@ -28,6 +28,6 @@ state_after start n capacity events i = (process start n capacity events i).stat
 abbrev pub committed : (ℕ → Base) → ℕ → ℕ → List (ℕ × Action) → List (ℕ × Input)
 committed start n capacity events = ended.committed start n (within capacity) events
 
--- this release formatted the journal of each node
+-- this version formatted the journal of each node
 abbrev pub all_fresh : ℕ → Base
 all_fresh i = fresh

@@ -6,7 +6,7 @@ use Rattle.ring_world.specs.Events.{Action}
 use Rattle.ring_world.specs.Schedules as scheduled
 use Rattle.ring_world.specs.Start.{IsFormatted}
 
--- Each journal was formatted, by whatever release, and each event may come after those before it.
+-- Each journal was formatted, by whatever version, and each event may come after those before it.
 pub record IsSchedule (start : ℕ → Base) (n capacity : ℕ) (events : List (ℕ × Action)) : Type 0 where
   pub formatted : (i : ℕ) → IsFormatted (start i)
   pub each : scheduled.IsSchedule start n (within capacity) events

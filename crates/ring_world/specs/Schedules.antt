@@ -34,7 +34,7 @@ pub record RestsOn (me n : ℕ) (room : RoomRule) (h : List Input) (number : ℕ
 -- ---- what may happen
 
 -- A node whose device failed has Release and Crash alone until it is opened again. No event has to happen, so the lists
--- in which it keeps to that are among these; and so are those in which the release that a node runs, and with it the
+-- in which it keeps to that are among these; and so are those in which the version that a node runs, and with it the
 -- layout of its checkpoints, changes at a crash alone.
 
 -- What the request brings node i was released to it: a message by the node before it, a credit by the node behind it. A
@@ -59,7 +59,7 @@ IsReleasable i n room p (Replied a) = Contains p.kept a × (a.answer.number ≤ 
 IsReleasable i n room p (Sent packet) = IsDurable i n room p.state (Sent packet)
 IsReleasable i n room p (Shown key c) = IsDurable i n room p.state (Shown key c)
 
--- some release writes areas of this layout
+-- some version writes areas of this layout
 pub record IsWritten (layout : ℕ) : Type 0 where
   pub least : OLDEST_AREA ≤ layout
   pub most : layout ≤ LAYOUT

@@ -1,5 +1,5 @@
 -- Schedules: an election of three nodes, one of two nodes with crashes, one with a Retire, and one of three nodes
--- whose journals three releases formatted.
+-- whose journals three versions formatted.
 use Rattle.std.specs.Prelude.{ℕ, true, false, nat_eq, if◌then◌else◌, List, [], ◌∷◌, ◌++◌, Some, codes}
 use Rattle.ring_records.specs.declared.base.Base.{Base}
 use Rattle.ring_records.specs.declared.candidate.Candidate.{Candidate}
@@ -93,7 +93,7 @@ retire_events =
     ∷ (1, Submit (ask.Who (relay.red 4))) ∷ replied 1 (ask.Who (relay.red 4)) (say.Refused (refused.Retired 9)) 4
     ∷ []
 
--- what three releases formatted: frames alone at node 1, an area without floors at node 2, and an area of today at
+-- what three versions formatted: frames alone at node 1, an area without floors at node 2, and an area of today at
 -- node 3
 abbrev pub three_layouts : ℕ → Base
 three_layouts i =

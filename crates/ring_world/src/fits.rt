@@ -6,7 +6,7 @@ ghost use Rattle.ring_records.specs.declared.input.Input.{Input};
 ghost use Rattle.ring_records.specs.Admission.{fresh};
 ghost use Rattle.ring_records.specs.Lawful.{IsBaseOf, IsLawfulState};
 ghost use Rattle.ring_records.specs.Fitting.{RingFits};
-ghost use Rattle.ring_records.specs.Member.{Member};
+ghost use Rattle.ring_records.specs.Member.{Member, member};
 ghost use Rattle.ring_records.specs.States.{durable_in, opened, NodeState, is_idle};
 ghost use Rattle.ring_records.specs.Summary.{empty};
 ghost use Rattle.gated_journal.specs.Reading.{fresh_area};
@@ -25,9 +25,8 @@ pub fn whole_histories()
     ensures { (start : ℕ → Base) (n capacity : ℕ) (events : List (ℕ × Action)) → IsSchedule start n capacity events → IsWhole (histories start n capacity events) (committed start n capacity events) }
 {}
 
-/// In every schedule the durable histories of all nodes fit, and so do those with which they are opened again: for each
-/// link as many messages at most are credited as were taken, what was taken is what was sent, message by message, and no
-/// two nodes know different leaders for a key.
+/// In every schedule the durable histories of all nodes fit: for each link as many messages at most are credited as were
+/// taken, what was taken is what was sent, message by message, and no two nodes know different leaders for a key.
 pub fn ring_fits()
     ensures fits { (start : ℕ → Base) (n capacity : ℕ) (events : List (ℕ × Action)) → IsSchedule start n capacity events → RingFits n (λ i place. Unit {0}) (λ i. durable_in (state_after start n capacity events i)) }
 {}
@@ -37,12 +36,14 @@ pub fn desks_begin_so()
     ensures { (member : Member) (run layout : ℕ) → (new_desk member run (fresh_area layout (first_epoch layout) empty)).view.state ≡ opened (formatted layout) [] }
 {}
 
-/// Whatever releases wrote a node's journal, its state is lawful and stays so, as `states_stay_lawful` of ring_records
-/// says of this one. As some release formatted it a journal stands for no input, and so for none of whatever history;
-/// a new one of today is such a journal. A checkpoint may be of any layout.
-pub fn releases_stay_lawful()
+/// Whatever versions wrote a node's journal, its state is lawful and stays so, as `states_stay_lawful` of ring_records
+/// says of this one. As some version formatted it a journal stands for no input, and so for none of whatever history;
+/// a new one of today is such a journal. A checkpoint may be of any layout. So after every schedule each node's state is
+/// lawful.
+pub fn versions_stay_lawful()
     ensures new { IsFormatted fresh }
     ensures base { (me : ℕ) (base : Base) (h : List Input) → IsFormatted base → IsBaseOf me base h }
     ensures opened { (m : Member) (base : Base) → IsFormatted base → IsLawfulState m (opened base []) }
     ensures launched_in { (m : Member) (s : NodeState) (layout : ℕ) → is_idle s ≡ true → IsLawfulState m s → IsLawfulState m (launched_in layout m.node s) }
+    ensures scheduled { (start : ℕ → Base) (n capacity : ℕ) (events : List (ℕ × Action)) (i : ℕ) → IsSchedule start n capacity events → IsLawfulState (member i n capacity) (state_after start n capacity events i) }
 {}

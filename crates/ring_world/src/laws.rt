@@ -1,6 +1,7 @@
 //! Laws of runs and schedules of a ring, whatever there is room for: public functions with an empty body, whose contracts say
 //! what follows from the definitions alone. A schedule goes by any rule of room, an arbitrary function; `capacity` says the
-//! same of the rule of this service. No program calls them. Further laws of schedules are in `fits`.
+//! same of the rule of this service. `World::announced` calls `headline`; no program calls another. Further laws of schedules
+//! are in `fits`.
 ghost use Rattle.std.specs.Prelude.{◌≡◌, ◌≢◌, ◌≤◌, ℕ, List, ◌∷◌, ◌++◌, take, IsTrue, IsSome};
 ghost use Rattle.std.specs.List.{Contains};
 ghost use Rattle.ring_records.specs.declared.base.Base.{Base};
@@ -29,7 +30,7 @@ pub fn agreement()
 {}
 
 /// In a legal run in which each message was taken, every node has a leader for each key that some node stood for and no
-/// node retired. No law says that a run ever comes to that.
+/// node retired. The election of `worked_schedules` is such a run; no law says that a run ever comes to that.
 pub fn decided()
     ensures { (n : ℕ) (run : List (ℕ × Input)) (key : Key) (i bid node : ℕ)
         → IsLegal n run → IsDrained n run → Contains run (i, Stand key bid) → IsRetiredNowhere n run key → 1 ≤ node → node ≤ n → IsSome (leader node (part run node) key) }

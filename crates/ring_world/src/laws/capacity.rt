@@ -1,5 +1,5 @@
-//! What the laws of any rule of room say of that of this service, of whatever capacity, where each journal was formatted by some
-//! release. An answer was given, besides, with room counted from what an area of the journal may stand for.
+//! The laws of schedules by the service's own rule of room, for every capacity, where some version formatted each journal.
+//! `prefix` also says from what base room was counted.
 ghost use Rattle.std.specs.Prelude.{◌≡◌, ◌≢◌, ℕ, List, ◌∷◌, ◌++◌, take, IsTrue};
 ghost use Rattle.std.specs.List.{Contains};
 ghost use Rattle.ring_records.specs.declared.base.Base.{Base};

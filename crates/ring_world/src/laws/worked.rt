@@ -7,6 +7,7 @@ ghost use Rattle.ring_records.specs.WorkedRetire as relay;
 ghost use Rattle.ring_records.specs.WorkedRetire.{retired_relay};
 ghost use Rattle.ring_records.specs.WorkedRun.{red_5, winner, first_election};
 ghost use Rattle.ring_audit.specs.Placement.{IsWhole};
+ghost use Rattle.ring_world.specs.Agreement.{IsDrained, IsRetiredNowhere};
 ghost use Rattle.ring_world.specs.Capacity.{committed, state_after, all_fresh};
 ghost use Rattle.ring_world.specs.Events.{Launch, LaunchAll};
 ghost use Rattle.ring_world.specs.CapacitySchedule.{IsSchedule};
@@ -15,15 +16,17 @@ ghost use Rattle.ring_world.specs.Released.{IsAnnounced};
 ghost use Rattle.ring_world.specs.WorkedSchedule.{election_events, alone, crash_events, crash_run, retire_events, three_layouts, layout_events, layout_run};
 
 /// There are schedules with a leader. In an election of three nodes the inputs become durable in the order of the
-/// worked run, and the one of the greatest bid is announced. Of two batches that fly at a crash one is lost and one is
-/// kept, and a leader is announced after it; so it is with two checkpoints. A leader is announced behind a Retire,
-/// which becomes durable as in the worked run with one. And where three releases formatted the journals of three nodes
-/// a leader is announced, each of them knows it, one journal comes to be of the newest layout, and what is durable is
-/// whole.
+/// worked run, in which each message is taken and no term retired, and the one of the greatest bid is announced. Of two
+/// batches that fly at a crash one is lost and one is kept, and a leader is announced after it; so it is with two
+/// checkpoints. A leader is announced behind a Retire, which becomes durable as in the worked run with one. And where
+/// three versions formatted the journals of three nodes a leader is announced, each of them knows it, one journal comes
+/// to be of the newest layout, and what is durable is whole.
 pub fn worked_schedules()
     ensures election { IsSchedule all_fresh 3 65536 election_events }
     ensures election_durable { committed all_fresh 3 65536 election_events ≡ first_election }
     ensures election_announced { IsAnnounced election_events red_5 winner }
+    ensures drained { IsDrained 3 first_election }
+    ensures live { IsRetiredNowhere 3 first_election red_5 }
     ensures crashes { IsSchedule all_fresh 2 4096 (crash_events Launch) }
     ensures crashes_durable { committed all_fresh 2 4096 (crash_events Launch) ≡ crash_run }
     ensures crashes_announced { IsAnnounced (crash_events Launch) red_5 alone }
