@@ -40,7 +40,8 @@ shortly() {
 }
 is_none_failed() { [ -z "$(systemctl list-units --failed -q --no-legend)" ]; }
 is_killed() { systemctl kill -s KILL --kill-who=main "$1"; }
-# logs PRIORITY TEXT: the journal has this line of the unit at that priority, shortly.
+logs_words() { journalctl -q -u ringd -p err..err -o cat | grep -q "^error: "; }
+# logs PRIORITY TEXT: the journal has this line of the unit at that priority.
 logs() { journalctl -q -u ringd -p "$1..$1" -o cat | grep -qx "ringd: $2"; }
 # as_ringd FOLDER WORD..
 as_ringd() { (cd "$1" && setpriv --reuid ringd --regid ringd --clear-groups "$prefix/bin/ringd" "${@:2}"); }
@@ -67,7 +68,7 @@ step "what was answered is there behind the next start" systemctl start ringd
 step "as it is told" ask 7101 "stand red 5 11" "no 3 already 10"
 step "killed" is_killed ringd
 step "it is started again" shortly tells 7100 /live live
-step "as each kill is" is ringd active success
+step "as each kill is" shortly is ringd active success
 systemctl stop ringd
 
 cp /var/lib/ringd/state/node-2.crj /tmp/whole
@@ -89,6 +90,7 @@ systemctl stop ringd
 echo 'RINGD_WORDS="--doors 99 --status 7200"' > /etc/default/ringd
 step "wrong words fail" not systemctl start ringd
 step "and are not tried again" is ringd failed exit-code
+step "the journal has them as an error" shortly logs_words
 systemctl reset-failed ringd
 echo 'RINGD_WORDS="--doors 2"' > /etc/default/ringd
 step "without a status port nothing is waited for" systemctl start ringd
