@@ -1,19 +1,20 @@
 #!/usr/bin/env python3
-"""Looks at the system calls of `ringd --make`, of which one more is refused each time.
+"""Looks at the system calls of `ringd --make`, and of a start that serves, of which one more is refused each time.
 
 makes.py [--ringd PATH]
 
 PATH is a built ringd, bin/ringd where none is named. It takes strace. Again and again a ring is made in an empty folder,
-while each sync, rename and write is refused in turn: once, or each one from then on. Its calls are held to the order that
+by `--make`, and by a start that is killed once it serves, while each sync, rename and write is refused in turn: once, or each one from then on. Its calls are held to the order that
 syncs.py tells of. Where it was refused, with one such call nothing is left, for good, and with more of them what is left
 is gone on from. Where it was not, all names are stable at its end.
 
-The last line is `makes M refused R, not as they should be: N`, behind the first that is not. Status 1 where there is one,
-or none was refused; 2 for other arguments.
+A line of each is `makes M refused R, not as they should be: N`, `starts M ..`, behind the first that is not. Status 1 where
+there is one, or none was refused; 2 for other arguments.
 """
 import os
 import pathlib
 import shutil
+import signal
 import subprocess
 import sys
 import tempfile
@@ -21,6 +22,7 @@ import tempfile
 HERE = os.path.dirname(os.path.abspath(__file__))
 sys.path.insert(0, HERE)
 from kill import PATIENCE
+from short import free_ports
 from syncs import CALLS, Start, calls, named
 
 NODES = 2
@@ -33,30 +35,42 @@ REFUSED, MOST = ("fsync", "fdatasync", "rename", "pwrite64"), 100
 
 
 class Makes:
-    """`ringd --make` in an empty folder, of which calls are refused."""
+    """`ringd --make` in an empty folder, of which calls are refused, or a start that serves."""
 
-    def __init__(self, ringd: str, folder: str) -> None:
-        self.ringd, self.folder = ringd, os.path.join(folder, "made")
+    def __init__(self, ringd: str, folder: str, serves: bool) -> None:
+        self.ringd, self.folder, self.serves = ringd, os.path.join(folder, "made"), serves
+        self.words = ["--serve", "1"] if serves else ["--make"]
         self.log, self.settings = os.path.join(folder, "makes"), os.path.join(folder, "makes.toml")
         self.count = self.refused = self.faults = 0
-        pathlib.Path(self.settings).write_text(f'nodes = {NODES}\ndir = "{self.folder}"\nport = 1\ncapacity = 4096\n', "ascii")
+        pathlib.Path(self.settings).write_text(f'nodes = {NODES}\ndir = "{self.folder}"\nport = {free_ports(NODES)}\ncapacity = 4096\n', "ascii")
 
     def fault(self, text: str) -> None:
         if not self.faults:
-            print(f"--make: {text}")
+            print(f"{self.words[0]}: {text}")
         self.faults += 1
 
     def make(self, inject: list[str]) -> tuple[int, Start]:
         """Runs it once: its status, and what was seen of it."""
         words = ["strace", "-f", "-yy", "-x", "-s", "65536", "-o", self.log, "-e", f"trace={CALLS}", *inject]
-        words += [self.ringd, "--settings", self.settings, "--make"]
-        done = subprocess.run(words, check=False, stdout=subprocess.DEVNULL, stderr=subprocess.DEVNULL, timeout=PATIENCE)
+        words += [self.ringd, "--settings", self.settings, *self.words]
+        status = self.ended(words)
         seen = Start(self.folder, 0)
         with open(self.log, encoding="ascii") as lines:
             for call in calls(list(lines)):
                 seen.see(call)
         self.count += 1
-        return done.returncode, seen
+        return status, seen
+
+    @staticmethod
+    def ended(words: list[str]) -> int:
+        """The status that it ends with, or 0 where it serves: then it is killed."""
+        with subprocess.Popen(words, stdout=subprocess.PIPE, stderr=subprocess.DEVNULL, start_new_session=True) as process:
+            assert process.stdout
+            if any(line == b"serving\n" for line in process.stdout):
+                os.killpg(process.pid, signal.SIGKILL)
+                process.wait(PATIENCE)
+                return 0
+            return process.wait(PATIENCE)
 
     def refuse(self, call: str, when: str) -> bool:
         """Has calls refused in an empty folder. Whether it came so far."""
@@ -87,7 +101,8 @@ class Makes:
                 for turn in range(1, MOST):
                     if not self.refuse(call, f"{turn}{kind}"):
                         break
-        print(f"makes {self.count} refused {self.refused}, not as they should be: {self.faults}")
+        kind = "starts" if self.serves else "makes"
+        print(f"{kind} {self.count} refused {self.refused}, not as they should be: {self.faults}")
         return not self.faults and bool(self.refused)
 
 
@@ -95,7 +110,8 @@ def main() -> int:
     ringd = named("Looks whether ringd --make does what it does in its order.")
     folder = tempfile.mkdtemp(prefix="ringd-makes-", dir=MEMORY if os.path.isdir(MEMORY) else None)
     try:
-        return 0 if Makes(ringd, folder).run() else 1
+        are_right = [Makes(ringd, folder, serves).run() for serves in (False, True)]
+        return 0 if all(are_right) else 1
     finally:
         shutil.rmtree(folder)
 
