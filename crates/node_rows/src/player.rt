@@ -25,12 +25,13 @@ pub struct Player {
 impl Player {
     /// Before a row: nothing is there.
     pub fn new(alloc: Global, place: u64) -> Result<Player, AllocError> {
+        let tickets = Tickets::new(alloc)?;
         Ok(Player {
             alloc,
             place,
             seat: Seat::Empty,
             aside: Seat::Empty,
-            tickets: Tickets::new(alloc)?,
+            tickets,
         })
     }
 
