@@ -10,6 +10,7 @@ pub mod Dropped
 pub mod Events
 pub mod Happened
 pub mod Histories
+pub mod Lasting
 pub mod Left
 pub mod Released
 pub mod Rest

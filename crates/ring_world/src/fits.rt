@@ -5,18 +5,18 @@ ghost use Rattle.ring_records.specs.declared.base.Base.{Base};
 ghost use Rattle.ring_records.specs.declared.input.Input.{Input};
 ghost use Rattle.ring_records.specs.Admission.{fresh};
 ghost use Rattle.ring_records.specs.Lawful.{IsBaseOf, IsLawfulState};
-ghost use Rattle.ring_records.specs.Fitting.{RingFits};
-ghost use Rattle.ring_records.specs.Member.{Member, member};
-ghost use Rattle.ring_records.specs.States.{durable_in, opened, NodeState, is_idle};
+ghost use Rattle.ring_records.specs.Member.{Member};
+ghost use Rattle.ring_records.specs.States.{opened, NodeState, is_idle};
 ghost use Rattle.ring_records.specs.Summary.{empty};
 ghost use Rattle.gated_journal.specs.Reading.{fresh_area};
 ghost use Rattle.group_commit.specs.Desk.{new_desk};
 ghost use Rattle.ring_audit.specs.Placement.{IsWhole};
-ghost use Rattle.ring_world.specs.Capacity.{committed, state_after};
+ghost use Rattle.ring_world.specs.Capacity.{committed};
 ghost use Rattle.ring_world.specs.Acts.{launched_in};
 ghost use Rattle.ring_world.specs.Events.{Action};
 ghost use Rattle.ring_world.specs.CapacitySchedule.{IsSchedule};
 ghost use Rattle.ring_world.specs.Histories.{histories};
+ghost use Rattle.ring_world.specs.Lasting.{AreLawful, DurableFits};
 ghost use Rattle.ring_world.specs.Start.{first_epoch, formatted, IsFormatted};
 
 /// In every schedule the durable histories of all nodes are the parts, whole, of one legal run: that of the inputs
@@ -28,7 +28,7 @@ pub fn whole_histories()
 /// In every schedule the durable histories of all nodes fit: for each link as many messages at most are credited as were
 /// taken, what was taken is what was sent, message by message, and no two nodes know different leaders for a key.
 pub fn ring_fits()
-    ensures fits { (start : ℕ → Base) (n capacity : ℕ) (events : List (ℕ × Action)) → IsSchedule start n capacity events → RingFits n (λ i place. Unit {0}) (λ i. durable_in (state_after start n capacity events i)) }
+    ensures fits { (start : ℕ → Base) (n capacity : ℕ) (events : List (ℕ × Action)) → IsSchedule start n capacity events → DurableFits start n capacity events }
 {}
 
 /// A desk that is opened on a journal of no input, of whatever layout, is in the state that its node begins with.
@@ -45,5 +45,5 @@ pub fn versions_stay_lawful()
     ensures base { (me : ℕ) (base : Base) (h : List Input) → IsFormatted base → IsBaseOf me base h }
     ensures opened { (m : Member) (base : Base) → IsFormatted base → IsLawfulState m (opened base []) }
     ensures launched_in { (m : Member) (s : NodeState) (layout : ℕ) → is_idle s ≡ true → IsLawfulState m s → IsLawfulState m (launched_in layout m.node s) }
-    ensures scheduled { (start : ℕ → Base) (n capacity : ℕ) (events : List (ℕ × Action)) (i : ℕ) → IsSchedule start n capacity events → IsLawfulState (member i n capacity) (state_after start n capacity events i) }
+    ensures scheduled { (start : ℕ → Base) (n capacity : ℕ) (events : List (ℕ × Action)) → IsSchedule start n capacity events → AreLawful start n capacity events }
 {}

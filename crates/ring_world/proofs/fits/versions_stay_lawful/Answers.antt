@@ -15,4 +15,4 @@ pub returns-clause-launched_in : goal.returns-clause-launched_in
 returns-clause-launched_in c = lawful-launched_in
 
 pub returns-clause-scheduled : goal.returns-clause-scheduled
-returns-clause-scheduled c = λ start n capacity events i schedule. ((schedule_holds start n capacity events schedule).sound i).lawful
+returns-clause-scheduled c = λ start n capacity events schedule i. ((schedule_holds start n capacity events schedule).sound i).lawful
