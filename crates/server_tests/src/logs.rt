@@ -1,10 +1,11 @@
 // What stands before the lines on standard error.
-use crate::programs::{Ring, Scenario, run, run_beside, runs};
+use crate::programs::{Ring, Scenario, run, runs};
 use crate::steps::Change::{Anew, Clears, Writes};
 use crate::steps::Step::{Changes, Ends};
 use crate::steps::{Step, anew, plays};
 use crate::visits::Visit;
 use log_lines::{Level, LogForm, Prefix};
+use ring_server::start;
 use std::test::*;
 use std::{fs, str};
 
@@ -55,9 +56,20 @@ fn lines_with_their_levels(rt: HostRuntime) {
 
 #[test]
 fn wrong_words_have_a_level(rt: HostRuntime) {
-    let ended = run_beside(&rt, &["ringd", "--nothing"], b"", true);
-    assert!(&rt; ended.status == 2);
-    assert!(&rt; ended.err.starts_with(b"<3>error: "));
+    let (mut out, mut err) = (Vec::new(rt.alloc()), Vec::new(rt.alloc()));
+    let words = ["ringd", "--nothing"];
+    // as where standard error is systemd's journal
+    let status = start(
+        &rt,
+        rt.alloc(),
+        &words,
+        true,
+        &mut b"".as_slice(),
+        &mut out,
+        &mut err,
+    );
+    assert!(&rt; status == 2);
+    assert!(&rt; err.starts_with(b"<3>error: "));
 }
 
 const ENDING: Scenario = Scenario {

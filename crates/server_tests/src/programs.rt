@@ -42,25 +42,8 @@ pub struct Scenario {
     pub err: Option<&'static [u8]>,
 }
 
-/// Runs the program on these words and settings, to its end. Its standard error is a file.
+/// Runs the program on these words and settings, to its end.
 pub fn run<R>(rt: &R, words: &[&str], settings: &[u8]) -> Ended
-where
-    R: Threads
-        + Wait
-        + Sync
-        + Send
-        + Copy
-        + 'static
-        + Clock
-        + AllocGlobal
-        + Files<File = File>
-        + Net<Listener = TcpListener, Stream = TcpStream>,
-{
-    run_beside(rt, words, settings, false)
-}
-
-/// The same, where standard error may be systemd's journal.
-pub fn run_beside<R>(rt: &R, words: &[&str], settings: &[u8], is_journal: bool) -> Ended
 where
     R: Threads
         + Wait
@@ -79,7 +62,7 @@ where
         rt,
         rt.alloc(),
         words,
-        is_journal,
+        false,
         &mut &*settings,
         &mut out,
         &mut err,
