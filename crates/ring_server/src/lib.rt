@@ -15,6 +15,7 @@ mod links;
 mod marks;
 mod node;
 mod pace;
+mod platform;
 mod ports;
 mod post;
 mod ring;
@@ -29,6 +30,7 @@ mod turnstile;
 mod watch;
 mod window;
 
+pub use platform::Platform;
 pub use post::Post;
 pub use ring::{Ring, serve_ring};
 pub use ringd::start;

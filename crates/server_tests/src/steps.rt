@@ -3,16 +3,14 @@ use crate::checkpoints::{epoch_of, layouts_of};
 use crate::looks::last_line;
 use crate::programs::{Ended, Ring, Scenario, beside, run, runs};
 use crate::visits::{Say, Visit};
+use ring_server::Platform;
 use std::alloc::AllocGlobal;
 use std::fs;
 use std::fs::File;
-use std::net::{Ipv4Addr, Net, TcpListener, TcpStream};
+use std::net::{Ipv4Addr, TcpListener};
 use std::process::Abort;
 use std::rt::Files;
-use std::sync::Wait;
 use std::test::*;
-use std::thread::Threads;
-use std::time::Clock;
 
 /// The words by which each node serves one session.
 pub const SERVE: &[&str] = &["ringd", "--serve", "1"];
@@ -167,20 +165,13 @@ fn ends_well(rt: &impl Abort, ended: &Ended) {
 }
 
 /// A ring of two serves one session each, and ends well. Node 1, at this port, is asked this and answers so.
-fn serves<R>(rt: &R, settings: &'static [u8], port: u16, line: &'static [u8], text: &'static [u8])
-where
-    R: Threads
-        + Wait
-        + Sync
-        + Send
-        + Copy
-        + 'static
-        + Clock
-        + Abort
-        + AllocGlobal
-        + Files<File = File>
-        + Net<Listener = TcpListener, Stream = TcpStream>,
-{
+fn serves<R: Platform + Abort + AllocGlobal>(
+    rt: &R,
+    settings: &'static [u8],
+    port: u16,
+    line: &'static [u8],
+    text: &'static [u8],
+) {
     let visits = [
         Visit::Asks(port, line, text),
         Visit::Asks(port.saturating_add(1), b"who red 1\n", b"none"),
@@ -190,26 +181,13 @@ where
 }
 
 /// A ring of two serves one session each, and ends well. Clients of node 1, at this port, and of node 2 say this.
-fn elects<R>(
+fn elects<R: Platform + Abort + AllocGlobal>(
     rt: &R,
     settings: &'static [u8],
     port: u16,
     first: &'static [Say],
     second: &'static [Say],
-)
-where
-    R: Threads
-        + Wait
-        + Sync
-        + Send
-        + Copy
-        + 'static
-        + Clock
-        + Abort
-        + AllocGlobal
-        + Files<File = File>
-        + Net<Listener = TcpListener, Stream = TcpStream>,
-{
+) {
     let one = [Visit::Says(port, first)];
     let two = [Visit::Says(port.saturating_add(1), second)];
     let ended = beside(rt, Ring::Program(SERVE, settings), &one, &two, &[]);
@@ -217,40 +195,20 @@ where
 }
 
 /// The program ends so on these words and settings, with this text on standard error.
-fn ends<R>(rt: &R, words: &[&str], settings: &[u8], status: u8, text: &[u8])
-where
-    R: Threads
-        + Wait
-        + Sync
-        + Send
-        + Copy
-        + 'static
-        + Clock
-        + Abort
-        + AllocGlobal
-        + Files<File = File>
-        + Net<Listener = TcpListener, Stream = TcpStream>,
-{
+fn ends<R: Platform + Abort + AllocGlobal>(
+    rt: &R,
+    words: &[&str],
+    settings: &[u8],
+    status: u8,
+    text: &[u8],
+) {
     let ended = run(rt, words, settings);
     assert!(rt; ended.status == status);
     assert!(rt; ended.err.as_slice() == text);
 }
 
 /// It looks at the ring of two, tells all of it, and ends so. Its last line begins so.
-fn looks<R>(rt: &R, settings: &[u8], status: u8, text: &[u8])
-where
-    R: Threads
-        + Wait
-        + Sync
-        + Send
-        + Copy
-        + 'static
-        + Clock
-        + Abort
-        + AllocGlobal
-        + Files<File = File>
-        + Net<Listener = TcpListener, Stream = TcpStream>,
-{
+fn looks<R: Platform + Abort + AllocGlobal>(rt: &R, settings: &[u8], status: u8, text: &[u8]) {
     let ended = run(rt, CHECK, settings);
     assert!(rt; ended.status == status);
     assert!(rt; ended.err.is_empty());
@@ -259,59 +217,31 @@ where
 }
 
 /// It ends so where this file or folder is locked.
-fn ends_beside_lock<R>(rt: &R, path: &str, settings: &[u8], text: &[u8])
-where
-    R: Threads
-        + Wait
-        + Sync
-        + Send
-        + Copy
-        + 'static
-        + Clock
-        + Abort
-        + AllocGlobal
-        + Files<File = File>
-        + Net<Listener = TcpListener, Stream = TcpStream>,
-{
+fn ends_beside_lock<R: Platform + Abort + AllocGlobal>(
+    rt: &R,
+    path: &str,
+    settings: &[u8],
+    text: &[u8],
+) {
     let file = File::open(rt, path).expect(rt, "a file");
     assert!(rt; file.try_lock().is_ok());
     ends(rt, SERVE, settings, 1, text);
 }
 
 /// It ends so where this port is in use.
-fn ends_beside_port<R>(rt: &R, port: u16, words: &[&str], settings: &[u8], text: &[u8])
-where
-    R: Threads
-        + Wait
-        + Sync
-        + Send
-        + Copy
-        + 'static
-        + Clock
-        + Abort
-        + AllocGlobal
-        + Files<File = File>
-        + Net<Listener = TcpListener, Stream = TcpStream>,
-{
+fn ends_beside_port<R: Platform + Abort + AllocGlobal>(
+    rt: &R,
+    port: u16,
+    words: &[&str],
+    settings: &[u8],
+    text: &[u8],
+) {
     let listener = TcpListener::bind(rt, (Ipv4Addr::LOCALHOST, port)).expect(rt, "a port");
     ends(rt, words, settings, 1, text);
     assert!(rt; listener.local_addr().is_ok());
 }
 
-fn does<R>(rt: &R, step: Step)
-where
-    R: Threads
-        + Wait
-        + Sync
-        + Send
-        + Copy
-        + 'static
-        + Clock
-        + Abort
-        + AllocGlobal
-        + Files<File = File>
-        + Net<Listener = TcpListener, Stream = TcpStream>,
-{
+fn does<R: Platform + Abort + AllocGlobal>(rt: &R, step: Step) {
     match step {
         Step::Changes(all) => {
             for change in all {
@@ -331,40 +261,14 @@ where
 }
 
 /// In an empty folder, which is gone behind it, the ring serves the clients and ends so.
-pub fn runs_anew<R>(rt: &R, folder: &str, scenario: &Scenario)
-where
-    R: Threads
-        + Wait
-        + Sync
-        + Send
-        + Copy
-        + 'static
-        + Clock
-        + Abort
-        + AllocGlobal
-        + Files<File = File>
-        + Net<Listener = TcpListener, Stream = TcpStream>,
-{
+pub fn runs_anew<R: Platform + Abort + AllocGlobal>(rt: &R, folder: &str, scenario: &Scenario) {
     anew(rt, folder);
     runs(rt, scenario);
     assert!(rt; fs::remove_dir_all(rt, folder).is_ok());
 }
 
 /// This is done, step by step.
-pub fn plays<R>(rt: &R, steps: &[Step])
-where
-    R: Threads
-        + Wait
-        + Sync
-        + Send
-        + Copy
-        + 'static
-        + Clock
-        + Abort
-        + AllocGlobal
-        + Files<File = File>
-        + Net<Listener = TcpListener, Stream = TcpStream>,
-{
+pub fn plays<R: Platform + Abort + AllocGlobal>(rt: &R, steps: &[Step]) {
     for step in steps {
         does(rt, *step);
     }
