@@ -1,6 +1,5 @@
 // Whether the histories of nodes can be told as one run, on worked ones.
 mod growths;
-mod random;
 
 use crate::rows::{input, node};
 use ring_audit::{AuditFault, audit};

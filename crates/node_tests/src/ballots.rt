@@ -59,8 +59,8 @@ type Row = (
 /// At the row's candidate this is sent on, and the ballot then is the row's.
 fn passes_on(rt: &impl Abort, row: Row, sent: Option<Msg>, at: Ballot) {
     let (stood, _, (bid, number), on, known) = row;
-    assert!(rt; sent == on.msg(rt, bid, number), "{bid} {number}");
-    assert!(rt; at == ballot(rt, stood, known), "{bid} {number}");
+    assert!(rt; sent == on.msg(rt, bid, number));
+    assert!(rt; at == ballot(rt, stood, known));
 }
 
 /// Node 2 hears the candidate's token.

@@ -1,5 +1,4 @@
-//! The tests of a node and of its parts: a ballot, a table of ballots, the two links, and the node that has them; and
-//! of the audit of a ring's histories.
+//! The tests of a ballot, of a node, and of the audit of a ring's histories.
 #![tactic(auto)]
 
 #[cfg(test)]
@@ -7,12 +6,6 @@ mod audits;
 #[cfg(test)]
 mod ballots;
 #[cfg(test)]
-mod free;
-#[cfg(test)]
-mod links;
-#[cfg(test)]
 mod node;
 #[cfg(test)]
 mod rows;
-#[cfg(test)]
-mod tables;

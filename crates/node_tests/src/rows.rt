@@ -51,8 +51,8 @@ pub fn refusal(rt: &impl Abort, cause: Option<Cause>) -> Option<Refusal> {
 
 /// The snapshot of this summary.
 pub fn written(rt: &impl Abort, alloc: Global, summary: &Summary) -> Vec<u8> {
-    assert!(rt; summary.keys.len() <= u32::MAX as usize, "few keys");
-    assert!(rt; summary.floors.len() <= u32::MAX as usize, "few floors");
+    assert!(rt; summary.keys.len() <= u32::MAX as usize);
+    assert!(rt; summary.floors.len() <= u32::MAX as usize);
     write_summary(alloc, summary, LAYOUT).expect(rt, "ample memory")
 }
 

@@ -22,7 +22,7 @@ fn restored(rt: &impl Abort, alloc: Global, capacity: u32, bytes: &[u8]) -> Node
         waits: false,
     };
     let from = read(rt, alloc, bytes);
-    assert!(rt; from.floors.len() <= u32::MAX as usize, "few floors");
+    assert!(rt; from.floors.len() <= u32::MAX as usize);
     let core = NodeCore::restore(alloc, node(rt, 2), 3, capacity, room, &from);
     drop(from);
     core.expect(rt, "ample memory")
@@ -232,13 +232,13 @@ fn has_room(rt: &impl Abort, alloc: Global, bytes: &[u8], case: &Case) {
         waits,
     };
     let from = read(rt, alloc, bytes);
-    assert!(rt; from.floors.len() <= u32::MAX as usize, "few floors");
+    assert!(rt; from.floors.len() <= u32::MAX as usize);
     let core = NodeCore::restore(alloc, node(rt, 2), 3, capacity, room, &from);
     let core = core.expect(rt, "ample memory");
     let needs = core.needs_area() == (waits && layout < LAYOUT);
     let admits = core.admit(&input(rt, op)).err() == refusal(rt, cause);
     drop((from, core));
-    assert!(rt; needs && admits, "{name}");
+    assert!(rt; needs && admits);
 }
 
 // In an area of an earlier layout a Retire, and each input behind one that waits, takes no byte of the capacity: the
