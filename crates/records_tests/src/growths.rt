@@ -23,8 +23,8 @@ fn read_at_last(rt: &impl Abort, alloc: Global) -> Summary {
 
 /// What is written, at the second call where the first finds no memory.
 fn written_at_last(rt: &impl Abort, alloc: Global, summary: &Summary) -> Vec<u8> {
-    assert!(rt; summary.keys.len() <= u32::MAX as usize, "few keys");
-    assert!(rt; summary.floors.len() <= u32::MAX as usize, "few floors");
+    assert!(rt; summary.keys.len() <= u32::MAX as usize);
+    assert!(rt; summary.floors.len() <= u32::MAX as usize);
     match write_summary(alloc, summary, 3) {
         Ok(bytes) => bytes,
         Err(_) => write_summary(alloc, summary, 3).expect(rt, "ample memory"),

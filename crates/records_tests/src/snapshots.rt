@@ -1,7 +1,7 @@
 // Snapshots byte for byte, in each layout, and bytes that are none.
 use crate::rows::{bid, key, messages};
 use ring_records::{
-    KeyState, Refusal, Summary, SummaryReader, read_summary, summary_len, write_summary,
+    KeyState, Msg, Refusal, Summary, SummaryReader, read_summary, summary_len, write_summary,
 };
 use std::alloc::Global;
 use std::process::Abort;
@@ -34,12 +34,13 @@ fn with(rt: &impl Abort, alloc: Global, bytes: &[u8], at: u8, put: &[u8]) -> Vec
 
 /// The bytes are the summary's snapshot in this layout.
 fn is_written(rt: &impl Abort, alloc: Global, summary: &Summary, layout: u8, bytes: &[u8]) {
-    assert!(rt; summary.keys.len() <= u32::MAX as usize, "few keys");
-    assert!(rt; summary.floors.len() <= u32::MAX as usize, "few floors");
+    assert!(rt; summary.keys.len() <= u32::MAX as usize);
+    assert!(rt; summary.floors.len() <= u32::MAX as usize);
+    assert!(rt; layout > 2 || summary.floors.is_empty());
     assert!(rt; summary_len(summary, layout) == (bytes.len() as u64));
-    assert!(rt; layout > 2 || summary.floors.is_empty(), "no floor");
     let written = write_summary(alloc, summary, layout).expect(rt, "ample memory");
     assert!(rt; written.as_slice() == bytes);
+    drop(written);
 }
 
 /// The bytes are the summary's snapshot in layout 2.
@@ -51,6 +52,14 @@ fn has_snapshot(rt: &impl Abort, alloc: Global, summary: &Summary, bytes: &[u8])
 fn goes_there_and_back(rt: &impl Abort, alloc: Global, bytes: &[u8]) {
     let summary = read_summary(alloc, bytes, 3, 2).expect(rt, "a snapshot");
     has_snapshot(rt, alloc, &summary, bytes);
+    drop(summary);
+}
+
+/// The window is the token of the node that stood.
+fn is_token_of_the_stand(rt: &impl Abort, alloc: Global, window: &[Msg]) {
+    let token = messages(rt, alloc, &[Token("red", 5, 10, 1)]);
+    assert!(rt; window == token.as_slice());
+    drop(token);
 }
 
 /// The summary is that of the node that stood.
@@ -64,8 +73,7 @@ fn is_of_the_stand(rt: &impl Abort, alloc: Global, summary: &Summary) {
         leader: None,
     };
     assert!(rt; summary.keys.as_slice() == [state].as_slice());
-    let window = messages(rt, alloc, &[Token("red", 5, 10, 1)]);
-    assert!(rt; summary.window.as_slice() == window.as_slice());
+    is_token_of_the_stand(rt, alloc, summary.window.as_slice());
     assert!(rt; summary.floors.is_empty());
 }
 
@@ -77,6 +85,7 @@ fn snapshot_bytes(rt: HostRuntime) {
     let summary = read_summary(alloc, &bytes, 3, 3).expect(&rt, "a snapshot");
     is_of_the_stand(&rt, alloc, &summary);
     is_written(&rt, alloc, &summary, 3, &bytes);
+    drop(summary);
 }
 
 #[test]
@@ -85,6 +94,7 @@ fn snapshot_bytes_of_layout_2(rt: HostRuntime) {
     let summary = read_summary(alloc, &STOOD, 3, 2).expect(&rt, "a snapshot");
     is_of_the_stand(&rt, alloc, &summary);
     has_snapshot(&rt, alloc, &summary, &STOOD);
+    drop(summary);
 }
 
 #[test]
@@ -98,7 +108,7 @@ fn snapshots_go_there_and_back(rt: HostRuntime) {
 /// The bytes are refused as damaged.
 fn is_damaged(rt: &impl Abort, alloc: Global, bytes: &[u8]) {
     let refusal = read_summary(alloc, bytes, 3, 2).err();
-    assert!(rt; refusal == Some(Refusal::Damaged(0)), "{bytes:?}");
+    assert!(rt; refusal == Some(Refusal::Damaged(0)));
 }
 
 #[test]
@@ -285,6 +295,38 @@ static FLOORS: [(&[u8], bool); 22] = [
     ), // a 2, red 9
 ];
 
+/// The bytes are this row's.
+fn bytes_of(rt: &impl Abort, alloc: Global, begins: Begins, end: &[u8]) -> Vec<u8> {
+    let mut bytes = Vec::from_slice(alloc, begins.bytes()).expect(rt, "ample memory");
+    bytes.extend_from_slice(end).expect(rt, "ample memory");
+    bytes
+}
+
+/// Whether the bytes are read as a snapshot, which is written again as they are. Else they are refused as damaged.
+fn is_snapshot(rt: &impl Abort, alloc: Global, layout: u8, bytes: &[u8]) -> bool {
+    match read_summary(alloc, bytes, 3, layout) {
+        Ok(summary) => {
+            is_written(rt, alloc, &summary, layout, bytes);
+            true
+        }
+        Err(refusal) => {
+            assert!(rt; refusal == Refusal::Damaged(0));
+            false
+        }
+    }
+}
+
+/// Whether the bytes are read so part after part.
+fn is_snapshot_in_parts(rt: &impl Abort, alloc: Global, layout: u8, bytes: &[u8]) -> bool {
+    match read_in_parts(rt, alloc, bytes, layout) {
+        Some(summary) => {
+            is_written(rt, alloc, &summary, layout, bytes);
+            true
+        }
+        None => false,
+    }
+}
+
 /// The bytes are read as the snapshot that they are, whole and part after part, and written again; or they are refused.
 fn is_judged(
     rt: &impl Abort,
@@ -292,27 +334,12 @@ fn is_judged(
     layout: u8,
     begins: Begins,
     end: &[u8],
-    is_snapshot: bool,
+    expected: bool,
 ) {
-    let mut bytes = Vec::from_slice(alloc, begins.bytes()).expect(rt, "ample memory");
-    bytes.extend_from_slice(end).expect(rt, "ample memory");
-    match read_summary(alloc, &bytes, 3, layout) {
-        Ok(summary) => {
-            assert!(rt; is_snapshot, "{layout} {bytes:?}");
-            is_written(rt, alloc, &summary, layout, &bytes);
-        }
-        Err(refusal) => {
-            assert!(rt; !is_snapshot, "{layout} {bytes:?}");
-            assert!(rt; refusal == Refusal::Damaged(0));
-        }
-    }
-    match read_in_parts(rt, alloc, &bytes, layout) {
-        Some(summary) => {
-            assert!(rt; is_snapshot, "{layout} {bytes:?}");
-            is_written(rt, alloc, &summary, layout, &bytes);
-        }
-        None => assert!(rt; !is_snapshot, "{layout} {bytes:?}"),
-    }
+    let bytes = bytes_of(rt, alloc, begins, end);
+    assert!(rt; is_snapshot(rt, alloc, layout, &bytes) == expected);
+    assert!(rt; is_snapshot_in_parts(rt, alloc, layout, &bytes) == expected);
+    drop(bytes);
 }
 
 #[test]

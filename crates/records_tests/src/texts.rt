@@ -38,47 +38,73 @@ fn refuses(rt: &impl Abort, alloc: Global, refusal: Refusal, number: u8, want: &
     assert!(rt; (refusal.number(), text.as_str()) == (number, want));
 }
 
+/// The refusals have these numbers, and are printed so.
+fn refuse(rt: &impl Abort, alloc: Global, rows: &[(Refusal, u8, &str)]) {
+    for row in rows {
+        let (refusal, number, want) = *row;
+        refuses(rt, alloc, refusal, number, want);
+    }
+}
+
 #[test]
-fn prints_refusals(rt: HostRuntime) {
-    let bid = bid(&rt, 0);
-    let term = Term::new(999_999_999).expect(&rt, "a term");
-    let node = NodeNo::new(2).expect(&rt, "a node");
+fn prints_refusals_of_requests(rt: HostRuntime) {
     let rows = [
         (Refusal::BadName, 1, "no 1 name"),
         (Refusal::BadNumber, 2, "no 2 number"),
-        (Refusal::Already(bid), 3, "no 3 already 0"),
         (Refusal::Late, 4, "no 4 late"),
-        (Refusal::Stale(term), 5, "no 5 stale 999999999"),
         (Refusal::Limit, 6, "no 6 limit"),
         (Refusal::Full, 7, "no 7 full"),
         (Refusal::OutOfMemory, 8, "no 8 memory"),
         (Refusal::Failed, 9, "no 9 failed"),
+        (Refusal::BadLine, 25, "no 25 line"),
+        (Refusal::Undecided, 26, "no 26 undecided"),
+    ];
+    refuse(&rt, rt.alloc(), &rows);
+}
+
+#[test]
+fn prints_refusals_of_calls(rt: HostRuntime) {
+    let most = Refusal::AckAhead(18_446_744_073_709_551_615);
+    let rows = [
         (Refusal::Foreign, 10, "no 10 foreign"),
         (Refusal::Early, 11, "no 11 early"),
         (Refusal::Busy, 12, "no 12 busy"),
         (Refusal::Old(2), 13, "no 13 old 2"),
         (Refusal::Gap(0), 13, "no 13 gap 0"),
-        (
-            Refusal::AckAhead(18_446_744_073_709_551_615),
-            14,
-            "no 14 ahead 18446744073709551615",
-        ),
+        (most, 14, "no 14 ahead 18446744073709551615"),
+        (Refusal::NoPlace, 20, "no 20 noplace"),
+        (Refusal::Unknown, 21, "no 21 unknown"),
+    ];
+    refuse(&rt, rt.alloc(), &rows);
+}
+
+#[test]
+fn prints_refusals_of_devices(rt: HostRuntime) {
+    let rows = [
         (Refusal::Device(1), 15, "no 15 device 1"),
         (Refusal::Damaged(16), 16, "no 16 damaged 16"),
         (Refusal::NotFormatted, 17, "no 17 unformatted"),
         (Refusal::OldLayout(2), 18, "no 18 oldlayout 2"),
         (Refusal::WrongNode, 19, "no 19 wrongnode"),
-        (Refusal::NoPlace, 20, "no 20 noplace"),
-        (Refusal::Unknown, 21, "no 21 unknown"),
         (Refusal::Mismatch, 22, "no 22 mismatch"),
-        (Refusal::Retired(term), 23, "no 23 retired 999999999"),
         (Refusal::Unlawful(12), 24, "no 24 unlawful 12"),
-        (Refusal::BadLine, 25, "no 25 line"),
-        (Refusal::Undecided, 26, "no 26 undecided"),
-        (Refusal::Dropped(node), 27, "no 27 dropped 2"),
-        (Refusal::TooFar(term), 28, "no 28 far 999999999"),
     ];
-    for (refusal, number, want) in rows {
-        refuses(&rt, rt.alloc(), refusal, number, want);
-    }
+    refuse(&rt, rt.alloc(), &rows);
+}
+
+/// The refusals that name this term.
+fn refuses_a_term(rt: &impl Abort, alloc: Global, term: Term) {
+    refuses(rt, alloc, Refusal::Stale(term), 5, "no 5 stale 999999999");
+    let retired = "no 23 retired 999999999";
+    refuses(rt, alloc, Refusal::Retired(term), 23, retired);
+    refuses(rt, alloc, Refusal::TooFar(term), 28, "no 28 far 999999999");
+}
+
+#[test]
+fn prints_refusals_that_name_a_bid_a_term_or_a_node(rt: HostRuntime) {
+    let (alloc, bid) = (rt.alloc(), bid(&rt, 0));
+    refuses(&rt, alloc, Refusal::Already(bid), 3, "no 3 already 0");
+    let node = NodeNo::new(2).expect(&rt, "a node");
+    refuses(&rt, alloc, Refusal::Dropped(node), 27, "no 27 dropped 2");
+    refuses_a_term(&rt, alloc, Term::last());
 }

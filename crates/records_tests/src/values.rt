@@ -23,10 +23,10 @@ fn reads_names_within_their_borders(rt: HostRuntime) {
     for row in &NAMES {
         let (text, is_name) = *row;
         let read = GroupName::read(text.as_bytes());
-        assert!(rt; read.is_ok() == is_name, "{text}");
+        assert!(rt; read.is_ok() == is_name);
         if let Ok(name) = read {
             let copy = name.as_bytes() == text.as_bytes();
-            assert!(rt; copy, "{text}");
+            assert!(rt; copy);
         }
     }
 }
@@ -47,32 +47,29 @@ fn takes_numbers_within_their_borders(rt: HostRuntime) {
     for row in &NUMBERS {
         let (number, is_term, is_bid) = *row;
         let (term, bid) = (Term::new(number), Bid::new(number));
-        assert!(rt;
-            (term.is_ok(), bid.is_ok()) == (is_term, is_bid),
-            "{number}"
-        );
+        assert!(rt; (term.is_ok(), bid.is_ok()) == (is_term, is_bid));
     }
     for row in &NODES {
         let (number, is_node) = *row;
         let node = NodeNo::new(number);
-        assert!(rt; node.is_ok() == is_node, "{number}");
+        assert!(rt; node.is_ok() == is_node);
     }
 }
 
 /// The first name is below the second, and its keys are, whatever their terms.
 fn orders_keys(rt: &impl Abort, low: &str, high: &str) {
     let (before, behind) = (key(rt, low, 2), key(rt, high, 1));
-    assert!(rt; before.group < behind.group, "{low} {high}");
-    assert!(rt; before < behind, "{low} {high}");
+    assert!(rt; before.group < behind.group);
+    assert!(rt; before < behind);
 }
 
 /// The first candidate is below the second.
 fn orders_candidates(rt: &impl Abort, low: (u32, u8), high: (u32, u8)) {
     let (lesser, greater) = (candidate(rt, low), candidate(rt, high));
-    assert!(rt; lesser < greater, "{low:?} {high:?}");
-    assert!(rt; lesser.is_below(&greater), "{low:?} {high:?}");
-    assert!(rt; !greater.is_below(&lesser), "{low:?} {high:?}");
-    assert!(rt; !lesser.is_below(&lesser), "{low:?}");
+    assert!(rt; lesser < greater);
+    assert!(rt; lesser.is_below(&greater));
+    assert!(rt; !greater.is_below(&lesser));
+    assert!(rt; !lesser.is_below(&lesser));
 }
 
 #[test]

@@ -14,7 +14,7 @@ fn keeps(rt: &impl Abort, alloc: Global, stop: Event, kept: u64) {
     let stopped = happens(rt, &mut world, stop);
     let is_lost = is_lost(&stopped, kept);
     drop(stopped);
-    assert!(rt; is_lost, "{stop:?}");
+    assert!(rt; is_lost);
     shows(rt, &world, kept);
     world.end();
 }

@@ -1,7 +1,6 @@
 //! Tests of a ring in memory: its nodes, the events that happen to it, and its console.
 //!
-//! What no clause says: that each call succeeds with ample memory, and what a stop leaves of a batch. Plain scripts are
-//! rows of console_rows.
+//! What no clause says: that each call succeeds with ample memory, and what a stop leaves of a batch. Plain scripts are rows.
 #![tactic(auto)]
 
 #[cfg(test)]

@@ -18,12 +18,12 @@ fn rings_have_2_to_16_nodes(rt: HostRuntime) {
     ] {
         match World::new(rt.alloc(), n, true, capacity) {
             Ok(world) => {
-                assert!(rt; made, "{n} {capacity}");
+                assert!(rt; made);
                 assert!(rt; world.size() == n);
                 world.end();
             }
             Err(refusal) => {
-                assert!(rt; !made, "{n} {capacity}");
+                assert!(rt; !made);
                 assert!(rt; refusal == Refusal::BadNumber);
             }
         }

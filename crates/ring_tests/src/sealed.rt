@@ -11,7 +11,7 @@ fn a_request_asks_for_room_for_its_own_reply(rt: HostRuntime) {
     for term in 1..101_u32 {
         let stood = asks(&rt, &mut world, 1, Ask::Stand("red", term, 10));
         is_sealed(&rt, &stood, u64::from(term));
-        assert!(rt; stood.replies.capacity() == 1, "{term}");
+        assert!(rt; stood.replies.capacity() == 1);
     }
     lands(&rt, &mut world, 64, 1);
     lands(&rt, &mut world, 36, 65);

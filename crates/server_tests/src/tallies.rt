@@ -53,9 +53,9 @@ fn commits_are_counted_by_how_long_they_took(rt: HostRuntime) -> Result<(), Fail
     assert!(rt; told.micros == 26_262_408);
     let mut within = 1u64;
     for (row, told) in BOUNDS.iter().zip(&told.within) {
-        assert!(rt; told.bound.seconds() == row.1, "{within}");
-        assert!(rt; told.bound.micros() == row.0, "{within}");
-        assert!(rt; told.count == within, "{within}");
+        assert!(rt; told.bound.seconds() == row.1);
+        assert!(rt; told.bound.micros() == row.0);
+        assert!(rt; told.count == within);
         within = within.saturating_add(2);
     }
     assert!(rt; Bound::all().len() == 8);
@@ -125,8 +125,8 @@ fn a_hang_is_told_from_the_tenth_second_on(rt: HostRuntime) -> Result<(), Fail> 
         (11_000, 11, Condition::Hangs),
     ] {
         let told = told_behind(&rt, rt.alloc(), &tally, begun, millis).expect(&rt, "ample memory");
-        assert!(rt; told.writing == writing, "{millis}");
-        assert!(rt; told.condition == condition, "{millis}");
+        assert!(rt; told.writing == writing);
+        assert!(rt; told.condition == condition);
     }
     // it is done, as it may be where it failed
     stopwatch.end(&rt, begun.checked_add(Duration::from_secs(11)));
@@ -150,7 +150,7 @@ fn the_last_checkpoint_has_an_age(rt: HostRuntime) -> Result<(), Fail> {
         };
         tally.land(&rt, landing);
         let told = told_behind(&rt, rt.alloc(), &tally, begun, 60_000)?;
-        assert!(rt; told.checkpoint_age == age, "{seconds}");
+        assert!(rt; told.checkpoint_age == age);
     }
     Ok(())
 }

@@ -34,7 +34,7 @@ fn all_that_happens(rt: HostRuntime) -> Result<(), Fail> {
         "ringd: node 1: red term 5 leader 1 bid 10\n",
         "ringd: node 1: red retired below 5\n",
     ] {
-        assert!(&rt; told.contains(line), "{line}");
+        assert!(&rt; told.contains(line));
     }
     // whichever of its two doors came first
     assert!(&rt;
@@ -177,7 +177,7 @@ fn troubles_that_come_and_go(rt: HostRuntime) {
     let mut spell = Spell::new();
     for row in &LOOKS {
         let (second, is_there, wanted) = *row;
-        assert!(rt; spell.look(is_there, second) == wanted, "{second}");
+        assert!(rt; spell.look(is_there, second) == wanted);
     }
 }
 

@@ -41,7 +41,7 @@ fn each_read_fails_in_turn(rt: HostRuntime) -> Result<(), Fail> {
             asked: 0,
         };
         let answer = serve(rt.alloc(), &mut reader, &mut out, &mut service);
-        assert!(rt; is_read(answer, &out, reads), "after {reads} reads");
+        assert!(rt; is_read(answer, &out, reads));
     }
     Ok(())
 }
@@ -68,7 +68,7 @@ fn the_input_ends_at_each_byte(rt: HostRuntime) {
         };
         let answer = serve(rt.alloc(), &mut reader, &mut out, &mut service);
         let are_told = answer == Ok(lines as u64) && are_first_lines(&out, lines);
-        assert!(rt; are_told, "{bytes} bytes");
+        assert!(rt; are_told);
     }
 }
 
@@ -89,7 +89,7 @@ fn reads_of_any_size(rt: HostRuntime) -> Result<(), Fail> {
             };
             let answer = serve(rt.alloc(), &mut reader, &mut out, &mut service);
             let is_whole = answer == Ok(4) && out.as_slice() == SHORT.1.as_bytes();
-            assert!(rt; is_whole, "{size} bytes a read");
+            assert!(rt; is_whole);
         }
     }
     Ok(())
@@ -137,7 +137,7 @@ fn each_write_fails_in_turn(rt: HostRuntime) {
     ] {
         for writes in 0..SHORT.1.len() + 1 {
             let (answer, out) = written(rt.alloc(), size, writes, takes_nothing);
-            assert!(rt; is_told(answer, &out, writes), "{writes} writes of {size}");
+            assert!(rt; is_told(answer, &out, writes));
         }
     }
 }

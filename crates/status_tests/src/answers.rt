@@ -105,7 +105,7 @@ fn dates(rt: HostRuntime) -> Result<(), Fail> {
             "HTTP/1.1 200 OK\r\nContent-Type: text/plain; charset=utf-8\r\nContent-Length: 1\r\n{wanted}Cache-Control: \
              no-store\r\nConnection: close\r\n\r\na"
         )?;
-        assert!(rt; answer.as_str() == wanted.as_str(), "{seconds}");
+        assert!(rt; answer.as_str() == wanted.as_str());
     }
     Ok(())
 }

@@ -71,16 +71,10 @@ fn health_and_readiness(rt: HostRuntime) -> Result<(), Fail> {
     for row in &HEALTH {
         let (conditions, elects, health, ready) = *row;
         let nodes = nodes_in(&rt, rt.alloc(), &conditions)?;
-        assert!(rt;
-            health_text(rt.alloc(), &nodes, &[])?.as_str() == health,
-            "{health}"
-        );
-        assert!(rt; are_well(&nodes) == (health == "well\n"), "{health}");
-        assert!(rt; can_elect(&nodes) == elects, "{health}");
-        assert!(rt;
-            ready_text(rt.alloc(), &nodes)?.as_str() == ready,
-            "{health}"
-        );
+        assert!(rt; health_text(rt.alloc(), &nodes, &[])?.as_str() == health);
+        assert!(rt; are_well(&nodes) == (health == "well\n"));
+        assert!(rt; can_elect(&nodes) == elects);
+        assert!(rt; ready_text(rt.alloc(), &nodes)?.as_str() == ready);
     }
     Ok(())
 }
@@ -228,7 +222,7 @@ fn metrics(rt: HostRuntime) -> Result<(), Fail> {
          counter\ncinoweta_refusals_total{node=\"1\",number=\"4\"} \
          2\ncinoweta_refusals_total{node=\"1\",number=\"25\"} 1\n",
     ] {
-        assert!(rt; text.as_str().contains(part), "{part}");
+        assert!(rt; text.as_str().contains(part));
     }
     Ok(())
 }
@@ -244,6 +238,6 @@ fn the_process(rt: HostRuntime) {
         ("2905  2816", 4_096, None),
         ("", 4_096, None),
     ] {
-        assert!(rt; resident_bytes(statm.as_bytes(), page) == wanted, "{statm}");
+        assert!(rt; resident_bytes(statm.as_bytes(), page) == wanted);
     }
 }

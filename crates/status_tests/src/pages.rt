@@ -20,7 +20,7 @@ fn texts_are_escaped(rt: HostRuntime) -> Result<(), Fail> {
     ] {
         let mut out = String::new(rt.alloc());
         push_escaped(&mut out, text)?;
-        assert!(rt; out.as_str() == wanted, "{text}");
+        assert!(rt; out.as_str() == wanted);
     }
     Ok(())
 }
@@ -28,7 +28,7 @@ fn texts_are_escaped(rt: HostRuntime) -> Result<(), Fail> {
 /// The page has each of these parts.
 fn has_parts(rt: &impl Abort, page: &str, parts: &[&str]) {
     for part in parts {
-        assert!(rt; page.contains(*part), "{part}");
+        assert!(rt; page.contains(*part));
     }
 }
 

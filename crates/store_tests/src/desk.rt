@@ -247,7 +247,7 @@ impl Station {
     }
 
     fn takes_out(&mut self, rt: &impl Abort, place: usize) -> Ticket {
-        assert!(rt; place < self.tickets.len(), "no such ticket");
+        assert!(rt; place < self.tickets.len());
         self.tickets.remove(place)
     }
 

@@ -1,4 +1,4 @@
-//! Tests of the desk of a node, and of the durable node over it, beside the rows of node_rows.
+//! Tests of the desk of a node, and of the durable node over it, beside the rows of a node.
 #![tactic(auto)]
 
 #[cfg(test)]

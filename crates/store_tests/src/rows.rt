@@ -51,7 +51,7 @@ pub fn sends_are(rt: &impl Abort, packets: &[Packet], sends: &[Sends]) {
     assert!(rt; packets.len() == sends.len());
     for (place, want) in sends.iter().enumerate() {
         let packet = want.packet().expect(rt, "a packet");
-        assert!(rt; packets.get(place).copied() == Some(packet), "{place}");
+        assert!(rt; packets.get(place).copied() == Some(packet));
     }
 }
 
@@ -85,6 +85,6 @@ pub fn tells_are(rt: &impl Abort, notices: &[Notice], tells: &[Tells]) {
     assert!(rt; notices.len() == tells.len());
     for (place, want) in tells.iter().enumerate() {
         let notice = want.notice(rt);
-        assert!(rt; notices.get(place).copied() == Some(notice), "{place}");
+        assert!(rt; notices.get(place).copied() == Some(notice));
     }
 }

@@ -84,7 +84,7 @@ fn each_read_fails_in_turn(rt: HostRuntime) -> Result<(), Fail> {
     let session = Session::of(rt.alloc(), FIRST_ELECTION)?;
     // one byte a read, and one read that finds the end
     for reads in 0..session.script.len() + 2 {
-        assert!(rt; is_read(rt.alloc(), &session, reads), "after {reads} reads");
+        assert!(rt; is_read(rt.alloc(), &session, reads));
     }
     drop(session);
     Ok(())
@@ -126,7 +126,7 @@ fn assert_written<R: Abort + AllocGlobal>(
             takes_nothing,
         };
         let written = is_written(rt.alloc(), session, writer);
-        assert!(rt; written, "{writes} writes of {size}");
+        assert!(rt; written);
     }
 }
 

@@ -76,9 +76,9 @@ pub fn assert_prints(rt: &impl Abort, alloc: Global, name: &str, script: &[u8], 
     let (answer, out) = played(alloc, script);
     let is_written = out.as_slice() == text.as_bytes();
     drop(out);
-    assert!(rt; is_written, "{name}");
+    assert!(rt; is_written);
     let lines = text.bytes().filter(|b| *b == b'\n').count();
-    assert!(rt; answer == Ok(lines as u64), "{name}");
+    assert!(rt; answer == Ok(lines as u64));
 }
 
 /// The script of the session prints its text.
