@@ -128,15 +128,11 @@ awk -v idle="$idle" -v memory="$memory" -v ready="$ready" -v file="$file" -v emp
 echo "bench board, reads of the latest leader beside a publisher:"
 reads=200000
 for readers in 1 2 4; do
-    for name in shared mutex rwlock; do
-        idle=$(best /dev/null "$work/counts" "$bench" board "$name" "$readers" 0)
-        whole=$(best /dev/null "$work/counts" "$bench" board "$name" "$readers" "$reads")
-        eval "${name}_$readers=$((readers * reads * 1000000 / ((whole - idle) / 1000)))"
-    done
-    eval "shared=\$shared_$readers mutex=\$mutex_$readers rwlock=\$rwlock_$readers"
-    awk -v readers="$readers" -v shared="$shared" -v mutex="$mutex" -v rwlock="$rwlock" 'BEGIN {
-        printf "%d readers: %d reads a second, %.1f times those of a map behind a mutex (%d), %.1f times those behind an rwlock (%d)\n",
-            readers, shared, shared / mutex, mutex, shared / rwlock, rwlock }'
+    idle=$(best /dev/null "$work/counts" "$bench" board shared "$readers" 0)
+    whole=$(best /dev/null "$work/counts" "$bench" board shared "$readers" "$reads")
+    shared=$((readers * reads * 1000000 / ((whole - idle) / 1000)))
+    eval "shared_$readers=$shared"
+    echo "$readers readers: $shared reads a second"
 done
 awk -v one="$shared_1" -v four="$shared_4" 'BEGIN { printf "4 readers: %.2f of 4 times the reads of one\n", four / one / 4 }'
 

@@ -1,24 +1,23 @@
-// A board that readers ask beside its publisher, the same map behind a lock, and a board that takes many decisions.
+// A board that readers ask beside its publisher, and one that takes many decisions.
 ghost use Rattle.std.specs.Prelude.{◌≡◌, ◌≤◌};
 
 use crate::fault::Fault;
-use crate::locked::{Leaders, Lock, Locked};
-use crate::race::{Latest, Publisher, Reader, decision, first_decisions, race};
+use crate::race::{decision, first_notices, race};
 use crate::words::{next_amount, next_word, tell};
-use decision_board::{Board, BoardReader, Naming, Opened, is_reader_count};
-use ring_records::{Decision, GroupName, Notice, Refusal};
+use decision_board::{Board, Naming, Opened, is_reader_count};
+use ring_records::{Notice, Refusal};
 use std::alloc::Global;
 use std::env::Args;
 use std::marker::Brand;
-use std::sync::{Mutex, RwLock, Wait};
+use std::sync::Wait;
 use std::thread::Threads;
 
 /// How many decisions are appended for each publish.
 const PIECE: u32 = 8;
 
-/// `shared READERS READS`: has so many readers of a board, 1 to 32, read so often each, beside a publisher. `mutex` and
-/// `rwlock` do the same with one map behind such a lock. All print how many reads found a leader. `append KEYS`:
-/// appends so many decisions to a board, in publishes of 8, and prints how many publishes there were.
+/// `shared READERS READS`: has so many readers of a board, 1 to 32, read so often each, beside a publisher, and prints how
+/// many reads found a leader. `append KEYS`: appends so many decisions to a board, in publishes of 8, and prints how many
+/// publishes there were.
 pub fn run<R: Threads + Wait + Sync>(
     rt: &HostRuntime,
     threads: &R,
@@ -32,16 +31,6 @@ pub fn run<R: Threads + Wait + Sync>(
             let found = shared::<Brand, R>(threads, alloc, Opened::new(), load)?;
             tell(rt, "found", found)
         }
-        "mutex" => tell(
-            rt,
-            "found",
-            behind_mutex(threads, alloc, next_load(words)?)?,
-        ),
-        "rwlock" => tell(
-            rt,
-            "found",
-            behind_rwlock(threads, alloc, next_load(words)?)?,
-        ),
         "append" => {
             let keys = next_amount(words)?;
             let publishes = append::<Brand, R>(threads, alloc, Opened::new(), keys)?;
@@ -66,38 +55,6 @@ fn next_load(words: &mut Args) -> Result<Load, Fault> {
         return Err(Fault::NoReaders);
     }
     Ok(Load { readers, reads })
-}
-
-/// The publisher's end of a board.
-#[derive(Drop)]
-struct Poster<'r, 'b, J: Naming, R: Wait> {
-    rt: &'r R,
-    board: &'b mut Board<J>,
-}
-
-impl<'r, 'b, J: Naming, R: Wait> Publisher for Poster<'r, 'b, J, R> {
-    fn publish(&mut self, decision: Decision) -> Result<(), Refusal> {
-        self.board.append(Notice::Decided(decision))?;
-        self.board.publish(self.rt)
-    }
-}
-
-impl<J: Naming> Reader for BoardReader<J> {
-    fn latest(&mut self, group: &GroupName) -> Latest {
-        BoardReader::latest(self, group)
-    }
-}
-
-/// What is published before anyone reads.
-fn first_notices(alloc: Global) -> Result<Vec<Notice>, Refusal> {
-    let mut notices = Vec::new(alloc);
-    for decision in &first_decisions(alloc)? {
-        match notices.push(Notice::Decided(*decision)) {
-            Ok(()) => {}
-            Err(_) => return Err(Refusal::OutOfMemory),
-        }
-    }
-    Ok(notices)
 }
 
 /// How often the readers of a board find a leader.
@@ -129,44 +86,7 @@ fn read_board<J: Naming + Send + Sync, R: Threads + Wait + Sync>(
             return Err(Refusal::OutOfMemory);
         }
     }
-    race(rt, alloc, &mut Poster { rt, board }, readers, load.reads)
-}
-
-/// The leaders that are there before anyone reads.
-fn first_leaders(alloc: Global) -> Result<Leaders, Refusal> {
-    Leaders::new(alloc, &first_decisions(alloc)?)
-}
-
-/// How often the readers of a map behind a mutex find a leader.
-fn behind_mutex<R: Threads + Wait + Sync>(
-    rt: &R,
-    alloc: Global,
-    load: Load,
-) -> Result<u64, Refusal> {
-    behind(rt, alloc, &Mutex::new(first_leaders(alloc)?), load)
-}
-
-/// How often those of a map behind a lock for many readers do.
-fn behind_rwlock<R: Threads + Wait + Sync>(
-    rt: &R,
-    alloc: Global,
-    load: Load,
-) -> Result<u64, Refusal> {
-    behind(rt, alloc, &RwLock::new(first_leaders(alloc)?), load)
-}
-
-/// How often the readers of a map behind a lock find a leader.
-fn behind<L: Lock, R: Threads + Wait + Sync>(
-    rt: &R,
-    alloc: Global,
-    lock: &L,
-    load: Load,
-) -> Result<u64, Refusal> {
-    let mut publisher = Locked::new(rt, lock);
-    let Ok(readers) = vec![in alloc; publisher; load.readers] else {
-        return Err(Refusal::OutOfMemory);
-    };
-    race(rt, alloc, &mut publisher, readers, load.reads)
+    race(rt, alloc, board, readers, load.reads)
 }
 
 /// How many publishes a new board takes for so many decisions.

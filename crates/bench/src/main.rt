@@ -12,7 +12,6 @@ mod fault;
 mod hub_part;
 mod journal_part;
 mod keys;
-mod locked;
 mod node_part;
 mod part;
 mod race;

@@ -43,11 +43,7 @@ pub const PARTS: [(Part, &str, &str); 8] = [
         "node",
         "memory FLUSHES | recover TIMES | file FLUSHES PATH | bare FLUSHES PATH | checkpoint WORK",
     ),
-    (
-        Part::Board,
-        "board",
-        "shared READERS READS | mutex READERS READS | rwlock READERS READS | append KEYS",
-    ),
+    (Part::Board, "board", "shared READERS READS | append KEYS"),
     (Part::Sessions, "sessions", "LINES SESSIONS"),
     (
         Part::Hub,

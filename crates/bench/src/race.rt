@@ -1,24 +1,11 @@
 // Readers in threads of their own, beside a publisher that never rests.
 use crate::keys::{GROUPS, group, key};
-use ring_records::{Bid, Candidate, Decision, GroupName, NodeNo, Refusal, Term};
+use decision_board::{Board, BoardReader, Naming};
+use ring_records::{Bid, Candidate, Decision, GroupName, NodeNo, Notice, Refusal};
 use std::alloc::{AllocError, Global};
+use std::sync::Wait;
 use std::sync::atomic::{AtomicBool, Ordering};
 use std::thread::{Threads, join, map_vec};
-
-/// What a read of the latest leader answers.
-pub type Latest = Result<Option<(Term, Candidate)>, Refusal>;
-
-/// What publishes decisions.
-pub trait Publisher {
-    /// Publishes one.
-    fn publish(&mut self, decision: Decision) -> Result<(), Refusal>;
-}
-
-/// What reads what is published.
-pub trait Reader {
-    /// The greatest term of the group with a leader, and that leader.
-    fn latest(&mut self, group: &GroupName) -> Latest;
-}
 
 /// The letter of the groups that are published and read.
 const LETTER: u8 = b'd';
@@ -34,16 +21,16 @@ pub fn decision(index: u32) -> Result<Decision, Refusal> {
     Ok(Decision { key, leader })
 }
 
-/// The first decision for each group, which is there before anyone reads.
-pub fn first_decisions(alloc: Global) -> Result<Vec<Decision>, Refusal> {
-    let mut decisions = Vec::new(alloc);
+/// The first decision for each group, which is published before anyone reads.
+pub fn first_notices(alloc: Global) -> Result<Vec<Notice>, Refusal> {
+    let mut notices = Vec::new(alloc);
     for index in 0..GROUPS {
-        let decision = decision(index)?;
-        if decisions.push(decision).is_err() {
+        let notice = Notice::Decided(decision(index)?);
+        if notices.push(notice).is_err() {
             return Err(Refusal::OutOfMemory);
         }
     }
-    Ok(decisions)
+    Ok(notices)
 }
 
 /// The groups that are read.
@@ -59,18 +46,27 @@ fn groups(alloc: Global) -> Result<Vec<GroupName>, Refusal> {
 }
 
 /// Publishes one decision after the other until the readers are done.
-fn publish_until<P: Publisher>(publisher: &mut P, done: &AtomicBool) -> Result<(), Refusal> {
+fn publish_until<J: Naming, R: Wait>(
+    rt: &R,
+    board: &mut Board<J>,
+    done: &AtomicBool,
+) -> Result<(), Refusal> {
     for no in 0..u64::MAX {
         if done.load(Ordering::SeqCst) {
             break;
         }
-        publisher.publish(decision((no % KEYS) as u32)?)?;
+        board.append(Notice::Decided(decision((no % KEYS) as u32)?))?;
+        board.publish(rt)?;
     }
     Ok(())
 }
 
 /// Reads so often, of one group after the other. Tells how often there was a leader.
-fn read_all<Q: Reader + Drop>(reader: Q, groups: &[GroupName], reads: u32) -> Result<u64, Refusal> {
+fn read_all<J: Naming>(
+    reader: BoardReader<J>,
+    groups: &[GroupName],
+    reads: u32,
+) -> Result<u64, Refusal> {
     let mut reader = reader;
     let mut found = 0u64;
     for group in groups.iter().cycle().take(reads as usize) {
@@ -94,9 +90,9 @@ pub fn sum(each: Result<Vec<Result<u64, Refusal>>, AllocError>) -> Result<u64, R
 }
 
 /// Has each reader read so often, in a thread of its own. Tells how often there was a leader.
-fn read_in_threads<R: Threads + Sync, Q: Reader + Send + Drop>(
+fn read_in_threads<J: Naming + Send + Sync, R: Threads + Sync>(
     rt: &R,
-    readers: Vec<Q>,
+    readers: Vec<BoardReader<J>>,
     groups: &[GroupName],
     reads: u32,
     done: &AtomicBool,
@@ -106,12 +102,12 @@ fn read_in_threads<R: Threads + Sync, Q: Reader + Send + Drop>(
     sum(each)
 }
 
-/// Has each reader read so often, in a thread of its own, beside the publisher. Tells how often there was a leader.
-pub fn race<R: Threads + Sync, P: Publisher + Send, Q: Reader + Send + Drop>(
+/// Has each reader read so often, in a thread of its own, beside the board's publisher. Tells how often there was a leader.
+pub fn race<J: Naming + Send + Sync, R: Threads + Wait + Sync>(
     rt: &R,
     alloc: Global,
-    publisher: &mut P,
-    readers: Vec<Q>,
+    board: &mut Board<J>,
+    readers: Vec<BoardReader<J>>,
     reads: u32,
 ) -> Result<u64, Refusal> {
     let names = groups(alloc)?;
@@ -120,7 +116,7 @@ pub fn race<R: Threads + Sync, P: Publisher + Send, Q: Reader + Send + Drop>(
     let done = &done;
     let (published, found) = join(
         rt,
-        || publish_until(publisher, done),
+        || publish_until(rt, board, done),
         || read_in_threads(rt, readers, groups, reads, done),
     );
     published?;
