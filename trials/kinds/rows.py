@@ -3,32 +3,35 @@ import functools
 import pathlib
 import re
 
-CRATES = pathlib.Path(__file__).resolve().parents[2] / "crates"
+DATA = pathlib.Path(__file__).resolve().parents[2] / "crates" / "rows" / "data"
 MARK = re.compile(rb"! (?:sends|repeats (\d+))(?: (.*))?")
 
 
 @functools.cache
-def rows_of(player: str) -> list[list[bytes]]:
-    """The lines of each row of a player, without comments."""
-    text = (CRATES / player / "stdin").read_bytes()
+def rows_of(kind: str) -> list[list[bytes]]:
+    """The lines of each row of this kind, without comments."""
+    text = (DATA / f"{kind}.rows").read_bytes()
     rows = [[line for line in row.split(b"\n") if line and not line.startswith((b"  ", b"#"))] for row in text.split(b"\n\n")]
     return [row for row in rows if row]
 
 
 def scripts() -> list[list[bytes]]:
     """Scripts for ringctl, line by line."""
-    return [[line + b"\n" for line in row] for row in rows_of("console_rows")]
+    return [[line + b"\n" for line in row] for row in rows_of("console")]
 
 
 @functools.cache
 def sessions() -> list[list[bytes]]:
     """Sessions, line by line. Where a row has several, they are one."""
-    return [re.findall(rb"[^\n]*\n|[^\n]+", b"".join(map(sent, row))) for row in rows_of("session_rows")]
+    return [re.findall(rb"[^\n]*\n|[^\n]+", b"".join(map(sent, row))) for row in rows_of("session")]
 
 
 def sent(line: bytes) -> bytes:
-    """What a client sends for a line of a row: nothing for a mark that is the player's alone."""
+    """What a client sends for a line of a row: nothing for a mark that is the player's alone, or is refused."""
     if not line.startswith(b"! "):
         return line + b"\n"
     mark = MARK.fullmatch(line)
-    return (mark[2] or b"").decode("unicode_escape").encode("latin-1") * int(mark[1] or 1) if mark else b""
+    try:
+        return (mark[2] or b"").decode("unicode_escape").encode("latin-1") * int(mark[1] or 1) if mark else b""
+    except UnicodeDecodeError:
+        return b""

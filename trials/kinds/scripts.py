@@ -1,5 +1,4 @@
 """Scripts, over bin/ringctl: each printed line is worked out by pictures/run.py, with faults and limits by the models beside this."""
-import pathlib
 import random
 
 import bounded
@@ -147,9 +146,6 @@ class Scripts(Kind):
         return None
 
 
-# The scripts of the gate's rows.
-ROWS = [[line + b"\n" for line in row.splitlines() if not line.startswith((b"  ", b"# "))]
-        for row in (pathlib.Path(__file__).resolve().parents[2] / "crates/console_rows/stdin").read_bytes().split(b"\n\n")]
 GROUPS = [b"red", b"red", b"blue", b"a", b"red-2", b"abcdefghijklmnop"]
 ODD = [b"0", b"00000000001", b"0000000001", b"1", b"17", b"16", b"999999999", b"1000000000", b"9999999999", b"10000000000", b"4294967297",
        b"-1", b"+1", b"1.", b"", b"red", b"Red", b"-red", b"r", b"abcdefghijklmnopq", b"all", b"fill", b"checkpoint", b"new", b"\xff", b"\t",
@@ -158,7 +154,7 @@ ODD = [b"0", b"00000000001", b"0000000001", b"1", b"17", b"16", b"999999999", b"
 
 def seeded(rng: random.Random) -> list[bytes]:
     """A row of the gate, in which lines are left out, repeated, put elsewhere or new."""
-    case = list(rng.choice([row for row in ROWS if row]))
+    case = list(rng.choice(rows.scripts()))
     for _ in range(rng.choice([0, 1, 2, 5])):
         taken = case.pop(rng.randrange(len(case))) if len(case) > 1 and rng.random() < 0.5 else rng.choice(case)
         at = rng.randint(0, len(case))
