@@ -1,8 +1,7 @@
 -- The command of ringd's words.
 use Rattle.std.proofs.Common.{ℕ, ◌≡◌, ◌∙◌, ap, subst, List, Result, Ok, Err, IfOk}
 use Rattle.std.specs.declared.alloc.AllocError.{AllocError}
-use Rattle.clap.specs.Words.{App, HasMatchesOf, Rule, app_of, rule_of, with_rule}
-use Rattle.clap.specs.declared.builder.arg.Arg.{Arg}
+use Rattle.clap.specs.Words.{App, HasMatchesOf, Rule, app_of, with_rule}
 use Rattle.clap.specs.declared.builder.command.Command.{Command}
 use Rattle.clap.specs.declared.parser.matches.ArgMatches.{ArgMatches}
 use Rattle.ring_service.specs.Words.{ringd_app}
@@ -12,11 +11,10 @@ pub adds : (app old named : App) (rule other : Rule) → app ≡ with_rule old r
 adds app old named rule other more same known = more ∙ (ap (λ one. with_rule one rule) same ∙ ap (with_rule named) known)
 
 -- the last one
-pub adds_last : (old : Command) (named : App) (arg : Arg) (other : Rule) (r : Result Command AllocError)
-    → IfOk r (λ more. app_of more ≡ with_rule (app_of old) (rule_of arg)) → app_of old ≡ named → rule_of arg ≡ other
-    → with_rule named other ≡ ringd_app → IfOk r (λ command. app_of command ≡ ringd_app)
-adds_last old named arg other (Ok last) more same known whole = adds (app_of last) (app_of old) named (rule_of arg) other more same known ∙ whole
-adds_last old named arg other (Err why) more same known whole = more
+pub adds_last : (old : Command) (named : App) (more : App → App) (r : Result Command AllocError)
+    → IfOk r (λ command. app_of command ≡ more (app_of old)) → app_of old ≡ named → IfOk r (λ command. app_of command ≡ more named)
+adds_last old named more (Ok last) told same = told ∙ ap more same
+adds_last old named more (Err why) told same = told
 
 -- what is matched by a command is matched by the one that it is
 pub matches_same : (app named : App) (words : List (List ℕ)) (m : ArgMatches) → app ≡ named → HasMatchesOf app words m → HasMatchesOf named words m

@@ -33,21 +33,14 @@ flag_rule name = record (new_rule name) { long = Some name; action = Some SetTru
 abbrev pub always_rule : Rule
 always_rule = record (flag_rule (codes "always")) { is_free = false }
 
--- `--make`, a flag that may not stand beside `--serve`, `--always` or `--existing`
-abbrev pub make_rule : Rule
-make_rule = record (flag_rule (codes "make")) { is_free = false }
+-- `--NAME`, a flag that may not stand beside another word, nor beside `--serve` or `--always`: `--make`, which stands beside no
+-- `--existing`, and `--check`, which stands beside no `--make`
+abbrev pub alone_rule : List ℕ → Rule
+alone_rule name = record (flag_rule name) { is_free = false }
 
--- `--check`, a flag that may not stand beside `--make`, `--serve` or `--always`
-abbrev pub check_rule : Rule
-check_rule = record (flag_rule (codes "check")) { is_free = false }
-
--- `--ring ID`
-abbrev pub ring_rule : Rule
-ring_rule = record (new_rule (codes "ring")) { long = Some (codes "ring"); value_names = 1 }
-
--- `--log FORM`
-abbrev pub log_rule : Rule
-log_rule = record (new_rule (codes "log")) { long = Some (codes "log"); value_names = 1 }
+-- `--NAME TEXT`
+abbrev pub text_rule : List ℕ → Rule
+text_rule name = record (new_rule name) { long = Some name; value_names = 1 }
 
 -- the same with a version, so that `--version` and `-V` are words too
 abbrev pub with_version : App → App
@@ -58,18 +51,23 @@ with_version app = record app { top = record app.top { has_version = true } }
 abbrev pub with_service : App → App
 with_service app = with_rule (with_rule (with_rule app settings_rule) (number_rule (codes "serve") 1 1000)) always_rule
 
+abbrev pub with_works : App → App
+with_works app = with_rule (with_rule app (alone_rule (codes "make"))) (alone_rule (codes "check"))
+
 abbrev pub with_folder : App → App
-with_folder app = with_rule (with_rule (with_rule (with_rule app (flag_rule (codes "existing"))) (flag_rule (codes "fail-stop"))) make_rule) check_rule
+with_folder app = with_works (with_rule (with_rule app (flag_rule (codes "existing"))) (flag_rule (codes "fail-stop")))
+
+abbrev pub with_status : App → App
+with_status app = with_rule (with_rule app (number_rule (codes "status") 1 65535)) (number_rule (codes "watchers") 0 64)
 
 abbrev pub with_doors : App → App
-with_doors app =
-    with_rule (with_rule (with_rule (with_rule app (number_rule (codes "doors") 1 DOORS)) (number_rule (codes "idle") 0 86400)) (number_rule (codes "status") 1 65535)) (number_rule (codes "watchers") 0 64)
+with_doors app = with_status (with_rule (with_rule app (number_rule (codes "doors") 1 DOORS)) (number_rule (codes "idle") 0 86400))
 
 abbrev pub with_ring : App → App
-with_ring app = with_rule (with_rule (with_rule app listen_rule) (number_rule (codes "leap") 0 999999999)) ring_rule
+with_ring app = with_rule (with_rule (with_rule app listen_rule) (number_rule (codes "leap") 0 999999999)) (text_rule (codes "ring"))
 
 abbrev pub with_tellings : App → App
-with_tellings app = with_rule (with_rule (with_rule app log_rule) (flag_rule (codes "leaders"))) (flag_rule (codes "verbose"))
+with_tellings app = with_rule (with_rule (with_rule app (text_rule (codes "log"))) (flag_rule (codes "leaders"))) (flag_rule (codes "verbose"))
 
 abbrev pub ringd_app : App
 ringd_app = with_tellings (with_ring (with_doors (with_folder (with_service (with_version (new_app (codes "ringd")))))))

@@ -5,6 +5,7 @@ ghost use Rattle.ring_service.specs.Settings.{is_setting};
 
 use crate::settings::{all_printed, is_setting};
 use std::alloc::Global;
+use toml::Table;
 
 /// A key of so many bytes is shown at most.
 const KEY_BYTES: usize = 64;
@@ -32,16 +33,32 @@ fn line_at(text: &[u8], place: usize) -> u64
     1 + before.filter(|byte| **byte == b'\n').count() as u64
 }
 
+/// The key, where it prints and has 1 to 64 bytes, and memory is not wanting.
+fn shown(alloc: Global, key: &str) -> Option<String>
+    ensures key { IfSome result (λ shown. string_bytes shown ≡ key.now) }
+    ensures few { IfSome result (λ shown. length (string_bytes shown) ≤ KEY_BYTES) }
+{
+    if 1 <= key.len() && key.len() <= KEY_BYTES && all_printed(key.as_bytes()) {
+        String::from_str(alloc, key).ok()
+    } else {
+        None
+    }
+}
+
+/// The first key of the table that is no setting, where it can be shown.
+fn unknown_in(alloc: Global, table: &Table) -> Option<String>
+    ensures unknown { IfSome result (λ key. is_setting (string_bytes key) ≡ false) }
+    ensures few { IfSome result (λ key. length (string_bytes key) ≤ KEY_BYTES) }
+{
+    let key = table.keys().find(|key| !is_setting(key.as_str()))?;
+    shown(alloc, key.as_str())
+}
+
 /// The first key of a TOML text, in order of bytes, that is no setting, where it prints and has 1 to 64 bytes.
 pub fn unknown_key(alloc: Global, text: &str) -> Option<String>
     ensures unknown { IfSome result (λ key. is_setting (string_bytes key) ≡ false) }
     ensures few { IfSome result (λ key. length (string_bytes key) ≤ KEY_BYTES) }
 {
     let table = toml::table_from_str(alloc, text).ok()?;
-    let key = table.keys().find(|key| !is_setting(key.as_str()))?;
-    if 1 <= key.len() && key.len() <= KEY_BYTES && all_printed(key.as_bytes()) {
-        String::from_str(alloc, key.as_str()).ok()
-    } else {
-        None
-    }
+    unknown_in(alloc, &table)
 }
