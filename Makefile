@@ -1,5 +1,5 @@
 # run: an example, before any proof. test: the names in the documents, and the merge gate. wrong_bodies: the wrong bodies that the gate does not try, those too that a test has to refuse, of CRATES or of all.
-# rows: the stdin of each crate that is named *_rows, played by what is not proved, and written with what is printed now.
+# rows: the rows of crates/rows/data, played by what is not proved, and written with what is printed now.
 # docs: bin/promises.md, each promise and each wrong body, by the sources.
 # bin/NAME: a proved program. bench: the times of ringctl and of the works of bench.
 # ringd: bin/ringd. serve: runs ringd on examples/ring.toml, unproved where bin/ringd is not built.
@@ -35,23 +35,25 @@
 .PHONY: ringd install serve fencing clients picture pictures kills years earlier load short threads scrapes writeback syncs fuzz faults growths hangs flips
 .PHONY: starts docs unit image copies alerts deb runbook full uses hosts turns lost_host
 
-ROWS = $(patsubst %/stdin,%,$(wildcard crates/*_rows/stdin))
+KINDS = console node session settings
+ROWS = $(KINDS:%=crates/rows/data/%.rows)
 
 run:
 	@bench/try.sh examples/first_election.ring
 
 test:
-	@for rows in $(ROWS); do cmp $$rows/stdin $$rows/stdout || exit 1; done
+	@cat $(ROWS) | cmp - crates/rows/stdout
 	@docs/check.py
 	@must_not_compile/run.py
 	@rt ci
 
 rows:
 	@mkdir -p bin
-	@for rows in $(ROWS); do \
-	  (cd $$rows && rt try < stdin) > bin/rows.txt || exit 1; \
-	  tee $$rows/stdin $$rows/stdout < bin/rows.txt > /dev/null; \
+	@for kind in $(KINDS); do \
+	  (cd crates/rows && rt try -- $$kind "$$PWD/data/$$kind.rows") > bin/rows.txt || exit 1; \
+	  cp bin/rows.txt crates/rows/data/$$kind.rows; \
 	done
+	@cat $(ROWS) > crates/rows/stdout
 
 docs:
 	@mkdir -p bin

@@ -28,7 +28,7 @@ from dataclasses import dataclass, fields
 MOST_PARAMETERS = 7
 MOST_LINES = 40
 MOST_LENGTH = 200
-ASIDE = re.compile(r"_tests$|_rows$|^bench$")
+ASIDE = re.compile(r"_tests$|rows$|^bench$")
 WORD = re.compile(r"[\w'-]+")
 DECLARED = re.compile(r"(?:(?:unfoldable|abbrev|pub|data|record)\s+)*([\w'-]+)\b")
 IMPORTED = re.compile(r"Rattle\.(\w+)\.specs\.([\w.]+)")

@@ -17,7 +17,7 @@ from dataclasses import dataclass, field
 from typing import Iterator
 
 ROOT = pathlib.Path(__file__).resolve().parent.parent
-ASIDE = re.compile(r"_tests$|_rows$|^bench$")
+ASIDE = re.compile(r"_tests$|rows$|^bench$")
 FUNCTION = re.compile(r"^(\s*)(pub(?:\([^)]*\))?\s+)?(?:const\s+)?(?:unsafe\s+)?fn\s+(\w+)")
 CLAUSE = re.compile(r"^\s*(requires|ensures)\s*(\w+)?\s*\{")
 BLOCK = re.compile(r"^(?:unsafe\s+)?(?:impl|pub trait|trait)\b")

@@ -1,0 +1,5 @@
+// Rows of settings and words of `ringd`.
+mod player;
+mod told;
+
+pub use player::Row;
