@@ -7,7 +7,6 @@ use crate::steps::{SERVE, Step, plays};
 use crate::visits::Say::{AtLast, Line};
 use crate::visits::Visit;
 use std::alloc::AllocGlobal;
-use std::io::Write;
 use std::net::{Net, TcpStream};
 use std::test::*;
 use std::time::Clock;
@@ -33,16 +32,41 @@ pub fn leads<R: Net<Stream = TcpStream> + Clock + AllocGlobal>(
     term: u32,
     stands: Stands,
 ) -> bool {
-    let mut stand = Vec::new(rt.alloc());
-    let mut who = Vec::new(rt.alloc());
     let text = match stands {
         Stands::First => b"stood".as_slice(),
         Stands::Again => b"no 3 already 10".as_slice(),
     };
-    writeln!(stand, "stand a {term} 10").is_ok()
-        && writeln!(who, "who a {term}").is_ok()
-        && answers(stream, &stand, text)
-        && answers_at_last(rt, stream, &who, b"leader 1 10")
+    is_answered(rt, stream, term, text) && is_led(rt, stream, term)
+}
+
+/// Whether a Stand in this term is answered so.
+fn is_answered<R: AllocGlobal>(rt: &R, stream: &TcpStream, term: u32, text: &[u8]) -> bool {
+    match format!(in rt.alloc(); "stand a {term} 10\n") {
+        Ok(line) => answers(stream, line.as_bytes(), text),
+        Err(_) => false,
+    }
+}
+
+/// Whether node 1 is told at last to lead in this term.
+fn is_led<R: Clock + AllocGlobal>(rt: &R, stream: &TcpStream, term: u32) -> bool {
+    match format!(in rt.alloc(); "who a {term}\n") {
+        Ok(line) => answers_at_last(rt, stream, line.as_bytes(), b"leader 1 10"),
+        Err(_) => false,
+    }
+}
+
+/// Whether it leads all terms in a row.
+fn leads_each<R: Net<Stream = TcpStream> + Clock + AllocGlobal>(
+    rt: &R,
+    stream: &TcpStream,
+    stands: Stands,
+) -> bool {
+    for term in 1..=TERMS {
+        if !leads(rt, stream, term, stands) {
+            return false;
+        }
+    }
+    true
 }
 
 /// Whether node 1 at this port leads all terms in a row, for which the client stands there.
@@ -51,24 +75,19 @@ pub fn leads_all_terms<R: Net<Stream = TcpStream> + Clock + AllocGlobal>(
     port: u16,
     stands: Stands,
 ) -> bool {
-    let Some(stream) = connect(rt, port) else {
-        return false;
-    };
-    for term in 1..=TERMS {
-        if !leads(rt, &stream, term, stands) {
-            return false;
-        }
+    match connect(rt, port) {
+        Some(stream) => leads_each(rt, &stream, stands) && answers(&stream, b"bye\n", b"bye"),
+        None => false,
     }
-    answers(&stream, b"bye\n", b"bye")
 }
 
 /// The epoch in the head of the area of a journal that begins there, 0 where none counts.
 fn epoch_at(journal: &[u8], start: usize) -> u64 {
     match journal.get(start..start.saturating_add(10)) {
-        Some(head) if head.len() == 10 && head[0] == 1 && head[1] > 1 => {
-            u64::from_be_bytes([
-                head[2], head[3], head[4], head[5], head[6], head[7], head[8], head[9],
-            ])
+        Some([1, layout, epoch @ ..]) if *layout > 1 => {
+            epoch
+                .iter()
+                .fold(0, |number: u64, byte| (number << 8) | u64::from(*byte))
         }
         _ => 0,
     }

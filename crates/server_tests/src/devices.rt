@@ -69,23 +69,37 @@ fn stand(term: u32) -> Result<Request, Refusal> {
     Ok(Request::Stand(key, bid))
 }
 
+/// Has the node stand for this term, durably.
+fn stands<D: Device>(rt: &impl Abort, node: &mut Node<D>, term: u32) {
+    let question = stand(term).expect(rt, "a Stand");
+    let ticket = node.submit(question).expect(rt, "a ticket");
+    let landed = node.flush();
+    assert!(rt; landed.is_ok());
+    drop(landed);
+    match node.redeem(ticket) {
+        Ok(redeemed) => drop(redeemed),
+        Err((_ticket, _)) => panic!(rt; "a reply that is released"),
+    }
+}
+
+/// The device of the node, which has no open ticket.
+fn closed<D: Device + Drop>(made: Node<D>) -> Option<D> {
+    let mut node = made;
+    node.close();
+    if node.is_open() || node.open_tickets() != 0 {
+        drop(node);
+        return None;
+    }
+    Some(node.into_device())
+}
+
 /// Has the node stand for terms 1 to `count`, durably, and gives its device.
 fn stand_before<D: Device + Drop, R: Abort>(rt: &R, made: Node<D>, count: u32) -> Option<D> {
     let mut node = made;
     for term in 1..=count {
-        let question = stand(term).expect(rt, "a Stand");
-        let ticket = node.submit(question).expect(rt, "a ticket");
-        assert!(rt; node.flush().is_ok());
-        match node.redeem(ticket) {
-            Ok(_) => {}
-            Err((_ticket, refusal)) => panic!(rt; "{refusal}"),
-        }
+        stands(rt, &mut node, term);
     }
-    node.close();
-    if node.is_open() || node.open_tickets() != 0 {
-        return None;
-    }
-    Some(node.into_device())
+    closed(node)
 }
 
 /// This device with node 1 of a ring of so many, of a capacity of 4,096, which stood so often.

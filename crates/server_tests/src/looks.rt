@@ -7,6 +7,7 @@ use crate::visits::Say;
 use crate::visits::Say::{AtLast, Line};
 use std::alloc::AllocGlobal;
 use std::str;
+use std::str::Lines;
 use std::test::*;
 
 /// How many inputs the line of this node tells, and for how many of them its snapshot stands.
@@ -54,14 +55,21 @@ pub fn last_line<R: AllocGlobal>(rt: &R, out: &[u8]) -> Option<String> {
     let mut lines = str::from_utf8(told).ok()?.lines();
     let one = counts_in(rt, lines.next()?, 1)?;
     let two = counts_in(rt, lines.next()?, 2)?;
+    if one.0 < one.1 || two.0 < two.1 {
+        return None;
+    }
     let said = said_of(rt, one, two)?;
-    let is_told = lines.next() == Some(said.as_str());
-    let is_told = is_told && is_explained(rt, &said, lines.next()) && lines.next().is_none();
-    if is_told && one.1 <= one.0 && two.1 <= two.0 {
+    if is_end(rt, lines, &said) {
         Some(said)
     } else {
         None
     }
+}
+
+/// Whether these lines are this one, and what explains it.
+fn is_end<R: AllocGlobal>(rt: &R, lines: Lines<'_>, said: &str) -> bool {
+    let mut lines = lines;
+    lines.next() == Some(said) && is_explained(rt, said, lines.next()) && lines.next().is_none()
 }
 
 const LOOKED: &[u8] = b"nodes = 2\ndir = \"looked\"\nport = 7331\n";

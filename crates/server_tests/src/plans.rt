@@ -3,7 +3,7 @@ use crate::fake::{Fake, Lack, Trick};
 use crate::steps::anew;
 use disk_model::{SystemCall, SystemFault};
 use log_lines::LogForm;
-use ring_service::{VERSION, read_settings};
+use ring_service::VERSION;
 use ring_start::{Log, Place, RingFault, Target, Told, Unopened, make_ring};
 use std::alloc::AllocGlobal;
 use std::cell::Cell;
@@ -21,11 +21,11 @@ const NOTHING: Trick = Trick {
     lack: Lack::Sync,
 };
 
-/// What `ringd --make` is told of a file, or `None` where it is not refused, by these settings over a folder, with this
-/// trick. Its calls are listed at `log`.
+/// What `ringd --make` is told of a file, or `None` where it is not refused, with this trick, of two nodes in this folder. Its
+/// calls are listed at `log`.
 fn made<R: Abort + AllocGlobal + Clock + Files<File = File>>(
     rt: &R,
-    settings: &str,
+    folder: &str,
     log: &str,
     trick: Trick,
 ) -> Option<Unopened> {
@@ -37,20 +37,17 @@ fn made<R: Abort + AllocGlobal + Clock + Files<File = File>>(
         trick,
         opened: &opened,
     };
-    let Ok(settings) = read_settings(rt.alloc(), settings) else {
-        panic!(rt; "settings that are taken");
-    };
     let (mut out, mut err) = (Vec::new(rt.alloc()), Vec::new(rt.alloc()));
     let mut log = Log::new(rt, &mut err, LogForm::Plain);
     let target = Target {
-        nodes: settings.nodes,
-        capacity: settings.capacity,
+        nodes: 2,
+        capacity: 4096,
         ring: None,
     };
     match make_ring(
         &fake,
         rt.alloc(),
-        settings.dir.as_str(),
+        folder,
         &target,
         VERSION,
         &mut out,
@@ -88,8 +85,7 @@ open planned/ring.id
 #[test]
 fn the_calls_that_make_a_ring(rt: HostRuntime) {
     anew(&rt, "planned");
-    let settings = "nodes = 2\ndir = \"planned\"\nport = 7321\ncapacity = 4096\n";
-    assert!(&rt; made(&rt, settings, "planned.log", NOTHING).is_none());
+    assert!(&rt; made(&rt, "planned", "planned.log", NOTHING).is_none());
     listed(&rt, "planned.log", PLANNED);
     fs::remove_dir_all(&rt, "planned").expect(&rt, "a folder");
 }
@@ -108,7 +104,32 @@ const UNWRITABLE: SystemFault = SystemFault {
     number: Some(9),
 };
 
-const UNNAMED: &[u8] = b"open unnamed
+/// What is told of a file of a ring, with a trick: its folder, where its calls are listed, and the calls.
+struct Refused {
+    folder: &'static str,
+    log: &'static str,
+    trick: Trick,
+    told: Told,
+    calls: &'static [u8],
+}
+
+/// It is told so.
+fn is_told<R: Abort + AllocGlobal + Clock + Files<File = File>>(rt: &R, row: &Refused) {
+    match made(rt, row.folder, row.log, row.trick) {
+        Some(unopened) => assert!(rt; unopened.told == Some(row.told)),
+        None => panic!(rt; "not refused"),
+    }
+    listed(rt, row.log, row.calls);
+}
+
+/// It is told so, and what was made is gone.
+fn is_refused<R: Abort + AllocGlobal + Clock + Files<File = File>>(rt: &R, row: &Refused) {
+    anew(rt, row.folder);
+    is_told(rt, row);
+    fs::remove_dir(rt, row.folder).expect(rt, "an empty folder");
+}
+
+const UNNAMED_CALLS: &[u8] = b"open unnamed
 remove unnamed/node-1.crj.new
 open unnamed/node-1.crj.new
 open unnamed
@@ -127,25 +148,25 @@ remove unnamed/node-2.crj
 remove unnamed/ring.id
 ";
 
-/// Names that are not on the disk are taken back, and there is no `ring.made`.
-#[test]
-fn names_that_are_not_synced(rt: HostRuntime) {
-    anew(&rt, "unnamed");
-    let settings = "nodes = 2\ndir = \"unnamed\"\nport = 7323\ncapacity = 4096\n";
-    let trick = Trick {
+static UNNAMED: Refused = Refused {
+    folder: "unnamed",
+    log: "unnamed.log",
+    trick: Trick {
         path: "unnamed",
         turn: 1,
         lack: Lack::Sync,
-    };
-    let Some(unopened) = made(&rt, settings, "unnamed.log", trick) else {
-        panic!(&rt; "not refused");
-    };
-    assert!(&rt; unopened.told == Some(Told::Fault(Place::Folder, UNSYNCED)));
-    listed(&rt, "unnamed.log", UNNAMED);
-    fs::remove_dir(&rt, "unnamed").expect(&rt, "an empty folder");
+    },
+    told: Told::Fault(Place::Folder, UNSYNCED),
+    calls: UNNAMED_CALLS,
+};
+
+/// Names that are not on the disk are taken back, and there is no `ring.made`.
+#[test]
+fn names_that_are_not_synced(rt: HostRuntime) {
+    is_refused(&rt, &UNNAMED);
 }
 
-const UNSIGNED: &[u8] = b"open unsigned
+const UNSIGNED_CALLS: &[u8] = b"open unsigned
 remove unsigned/node-1.crj.new
 open unsigned/node-1.crj.new
 open unsigned
@@ -164,118 +185,120 @@ remove unsigned/node-2.crj
 remove unsigned/ring.id
 ";
 
-/// The identity is on the disk before its name is.
-#[test]
-fn an_identity_that_is_not_synced(rt: HostRuntime) {
-    anew(&rt, "unsigned");
-    let settings = "nodes = 2\ndir = \"unsigned\"\nport = 7333\ncapacity = 4096\n";
-    let trick = Trick {
+static UNSIGNED: Refused = Refused {
+    folder: "unsigned",
+    log: "unsigned.log",
+    trick: Trick {
         path: "unsigned/ring.id",
         turn: 1,
         lack: Lack::Store,
-    };
-    let Some(unopened) = made(&rt, settings, "unsigned.log", trick) else {
-        panic!(&rt; "not refused");
-    };
-    assert!(&rt; unopened.told == Some(Told::Fault(Place::Identity, UNSYNCED)));
-    listed(&rt, "unsigned.log", UNSIGNED);
-    fs::remove_dir(&rt, "unsigned").expect(&rt, "an empty folder");
+    },
+    told: Told::Fault(Place::Identity, UNSYNCED),
+    calls: UNSIGNED_CALLS,
+};
+
+/// The identity is on the disk before its name is.
+#[test]
+fn an_identity_that_is_not_synced(rt: HostRuntime) {
+    is_refused(&rt, &UNSIGNED);
 }
 
-const UNSTABLE: &[u8] = b"open unstable
+const UNSTABLE_CALLS: &[u8] = b"open unstable
 remove unstable/node-1.crj.new
 open unstable/node-1.crj.new
 remove unstable/node-1.crj.new
 ";
 
-/// A new file is synced before all else, and is gone where that is refused.
-#[test]
-fn a_new_file_that_is_not_synced(rt: HostRuntime) {
-    anew(&rt, "unstable");
-    let settings = "nodes = 2\ndir = \"unstable\"\nport = 7325\ncapacity = 4096\n";
-    let trick = Trick {
+static UNSTABLE: Refused = Refused {
+    folder: "unstable",
+    log: "unstable.log",
+    trick: Trick {
         path: "unstable/node-1.crj.new",
         turn: 1,
         lack: Lack::Sync,
-    };
-    let Some(unopened) = made(&rt, settings, "unstable.log", trick) else {
-        panic!(&rt; "not refused");
-    };
-    assert!(&rt; unopened.told == Some(Told::Fault(Place::New, UNSYNCED)));
-    listed(&rt, "unstable.log", UNSTABLE);
-    fs::remove_dir(&rt, "unstable").expect(&rt, "an empty folder");
+    },
+    told: Told::Fault(Place::New, UNSYNCED),
+    calls: UNSTABLE_CALLS,
+};
+
+/// A new file is synced before all else, and is gone where that is refused.
+#[test]
+fn a_new_file_that_is_not_synced(rt: HostRuntime) {
+    is_refused(&rt, &UNSTABLE);
 }
 
-const UNLISTED: &[u8] = b"open unlisted
+const UNLISTED_CALLS: &[u8] = b"open unlisted
 remove unlisted/node-1.crj.new
 open unlisted/node-1.crj.new
 open unlisted
 remove unlisted/node-1.crj.new
 ";
 
-/// So is its name.
-#[test]
-fn the_name_of_a_new_file_that_is_not_synced(rt: HostRuntime) {
-    anew(&rt, "unlisted");
-    let settings = "nodes = 2\ndir = \"unlisted\"\nport = 7327\ncapacity = 4096\n";
-    let trick = Trick {
+static UNLISTED: Refused = Refused {
+    folder: "unlisted",
+    log: "unlisted.log",
+    trick: Trick {
         path: "unlisted",
         turn: 2,
         lack: Lack::Sync,
-    };
-    let Some(unopened) = made(&rt, settings, "unlisted.log", trick) else {
-        panic!(&rt; "not refused");
-    };
-    assert!(&rt; unopened.told == Some(Told::Fault(Place::New, UNSYNCED)));
-    listed(&rt, "unlisted.log", UNLISTED);
-    fs::remove_dir(&rt, "unlisted").expect(&rt, "an empty folder");
+    },
+    told: Told::Fault(Place::New, UNSYNCED),
+    calls: UNLISTED_CALLS,
+};
+
+/// So is its name.
+#[test]
+fn the_name_of_a_new_file_that_is_not_synced(rt: HostRuntime) {
+    is_refused(&rt, &UNLISTED);
 }
 
-const UNWRITTEN: &[u8] = b"open unwritten
+const UNWRITTEN_CALLS: &[u8] = b"open unwritten
 remove unwritten/node-1.crj.new
 open unwritten/node-1.crj.new
 open unwritten
 remove unwritten/node-1.crj.new
 ";
 
-/// A file that is not formatted is gone.
-#[test]
-fn a_new_file_that_is_not_written(rt: HostRuntime) {
-    anew(&rt, "unwritten");
-    let settings = "nodes = 2\ndir = \"unwritten\"\nport = 7329\ncapacity = 4096\n";
-    let trick = Trick {
+static UNWRITTEN: Refused = Refused {
+    folder: "unwritten",
+    log: "unwritten.log",
+    trick: Trick {
         path: "unwritten/node-1.crj.new",
         turn: 1,
         lack: Lack::Write,
-    };
-    let Some(unopened) = made(&rt, settings, "unwritten.log", trick) else {
-        panic!(&rt; "not refused");
-    };
-    assert!(&rt; unopened.told == Some(Told::Fault(Place::New, UNWRITABLE)));
-    listed(&rt, "unwritten.log", UNWRITTEN);
-    fs::remove_dir(&rt, "unwritten").expect(&rt, "an empty folder");
+    },
+    told: Told::Fault(Place::New, UNWRITABLE),
+    calls: UNWRITTEN_CALLS,
+};
+
+/// A file that is not formatted is gone.
+#[test]
+fn a_new_file_that_is_not_written(rt: HostRuntime) {
+    is_refused(&rt, &UNWRITTEN);
 }
 
-const KEPT: &[u8] = b"open kept
+const KEPT_CALLS: &[u8] = b"open kept
 open kept/node-1.crj
 open kept/node-2.crj
 ";
+
+static KEPT: Refused = Refused {
+    folder: "kept",
+    log: "kept.log",
+    trick: Trick {
+        path: "kept/node-1.crj",
+        turn: 1,
+        lack: Lack::Write,
+    },
+    told: Told::Fault(Place::Journal, UNWRITABLE),
+    calls: KEPT_CALLS,
+};
 
 /// A checkpoint that a file does not take is told of that file, and makes no other.
 #[test]
 fn a_checkpoint_that_is_not_written(rt: HostRuntime) {
     anew(&rt, "kept");
-    let settings = "nodes = 2\ndir = \"kept\"\nport = 7331\ncapacity = 4096\n";
-    assert!(&rt; made(&rt, settings, "kept.log", NOTHING).is_none());
-    let trick = Trick {
-        path: "kept/node-1.crj",
-        turn: 1,
-        lack: Lack::Write,
-    };
-    let Some(unopened) = made(&rt, settings, "kept.log", trick) else {
-        panic!(&rt; "not refused");
-    };
-    assert!(&rt; unopened.told == Some(Told::Fault(Place::Journal, UNWRITABLE)));
-    listed(&rt, "kept.log", KEPT);
+    assert!(&rt; made(&rt, "kept", "kept.log", NOTHING).is_none());
+    is_told(&rt, &KEPT);
     fs::remove_dir_all(&rt, "kept").expect(&rt, "a folder");
 }

@@ -99,19 +99,32 @@ fn a_node_whose_snapshot_does_not_fit(rt: HostRuntime) -> Result<(), Fail> {
     Ok(())
 }
 
-/// What comes of the checkpoint of a start, where the device of a node that stood twice fails at the call behind so many.
-fn renews<R: Abort + AllocGlobal>(rt: &R, passes: u64) -> Result<bool, Refusal> {
+/// Node 1 of two, which stood twice and was opened again, over a device that fails at the call behind so many.
+fn armed<R: Abort + AllocGlobal>(rt: &R, passes: u64) -> OpenNode<FuseDevice<MemDevice>> {
     let memory = MemDevice::new(rt.alloc(), 46 + 2 * 4096).expect(rt, "ample memory");
     let device = FuseDevice::new(memory, u64::MAX, false);
     let device = stood(rt, device, 2, 2).expect(rt, "a device");
-    let Ok(recovered) = Node::recover(rt.alloc(), device, NodeNo::first(), 2, 0) else {
-        panic!(rt; "not recovered");
-    };
-    let mut node = recovered;
-    node.arm(passes, true);
-    match OpenNode::new(NodeNo::first(), 2, node).renew() {
-        Ok(ready) => Ok(ready.is_written),
-        Err((_device, refusal)) => Err(refusal),
+    match Node::recover(rt.alloc(), device, NodeNo::first(), 2, 0) {
+        Ok(mut node) => {
+            node.arm(passes, true);
+            OpenNode::new(NodeNo::first(), 2, node)
+        }
+        Err(_) => panic!(rt; "not recovered"),
+    }
+}
+
+/// What comes of the checkpoint of a start over it.
+fn renews<R: Abort + AllocGlobal>(rt: &R, passes: u64) -> Result<bool, Refusal> {
+    match armed(rt, passes).renew() {
+        Ok(ready) => {
+            let is_written = ready.is_written;
+            drop(ready);
+            Ok(is_written)
+        }
+        Err((device, refusal)) => {
+            drop(device);
+            Err(refusal)
+        }
     }
 }
 

@@ -134,6 +134,20 @@ fn alters<R: Abort + AllocGlobal + Files<File = File>>(
     panic!(rt; "no such bytes");
 }
 
+/// Whether what one call of the system does is done.
+fn is_done<R: AllocGlobal + Files<File = File>>(rt: &R, change: Change) -> bool {
+    match change {
+        Change::Clears(path) => fs::remove_dir_all(rt, path).is_ok(),
+        Change::MakesFolder(path) => fs::create_dir(rt, path).is_ok(),
+        Change::RemovesFolder(path) => fs::remove_dir(rt, path).is_ok(),
+        Change::Writes(path, bytes) => fs::write(rt, path, bytes).is_ok(),
+        Change::Copies(from, to) => fs::copy(rt, from, to).is_ok(),
+        Change::Renames(from, to) => fs::rename(rt, from, to).is_ok(),
+        Change::Removes(path) => fs::remove_file(rt, path).is_ok(),
+        _ => false,
+    }
+}
+
 /// It is found so, or done.
 fn changes<R: Abort + AllocGlobal + Files<File = File> + Copy>(rt: &R, change: Change) {
     let done = match change {
@@ -146,13 +160,7 @@ fn changes<R: Abort + AllocGlobal + Files<File = File> + Copy>(rt: &R, change: C
         Change::IsInEpoch(path, epoch) => return is_in_epoch(rt, path, epoch),
         Change::IsOfLayout(path, layout) => return is_of_layout(rt, path, layout),
         Change::IsCopy(path, other) => return is_copy(rt, path, other),
-        Change::Clears(path) => fs::remove_dir_all(rt, path).is_ok(),
-        Change::MakesFolder(path) => fs::create_dir(rt, path).is_ok(),
-        Change::RemovesFolder(path) => fs::remove_dir(rt, path).is_ok(),
-        Change::Writes(path, bytes) => fs::write(rt, path, bytes).is_ok(),
-        Change::Copies(from, to) => fs::copy(rt, from, to).is_ok(),
-        Change::Renames(from, to) => fs::rename(rt, from, to).is_ok(),
-        Change::Removes(path) => fs::remove_file(rt, path).is_ok(),
+        change => is_done(rt, change),
     };
     assert!(rt; done);
 }

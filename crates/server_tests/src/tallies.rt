@@ -7,7 +7,7 @@ use ring_status::{
     Bound, Condition, Counts, Holding, Landing, Letters, NodeStatus, Place, node_status,
 };
 use ring_watch::{Stopwatch, Tally};
-use std::alloc::AllocError;
+use std::alloc::{AllocError, Global};
 use std::process::Abort;
 use std::sync::Wait;
 use std::test::*;
@@ -86,7 +86,7 @@ const HELD: Holding = Holding {
 /// What is told of node 2 so many milliseconds behind that moment.
 fn told_behind<R: Abort + Wait>(
     rt: &R,
-    alloc: std::alloc::Global,
+    alloc: Global,
     tally: &Tally,
     begun: Instant,
     millis: u64,
@@ -112,27 +112,43 @@ fn told_behind<R: Abort + Wait>(
     ))
 }
 
+/// So many milliseconds behind its beginning a commit takes so many seconds, and the node is so.
+const WRITINGS: [(u64, u64, Condition); 4] = [
+    (0, 0, Condition::Well),
+    (9_999, 9, Condition::Well),
+    (10_000, 10, Condition::Hangs),
+    (11_000, 11, Condition::Hangs),
+];
+
+/// Behind so many milliseconds a commit takes so many seconds, and the node is so.
+fn is_writing<R: Abort + Wait>(
+    rt: &R,
+    alloc: Global,
+    tally: &Tally,
+    begun: Instant,
+    millis: u64,
+    expected: (u64, Condition),
+) {
+    let told = told_behind(rt, alloc, tally, begun, millis).expect(rt, "ample memory");
+    assert!(rt; (told.writing, told.condition) == expected);
+    drop(told);
+}
+
 #[test]
 fn a_hang_is_told_from_the_tenth_second_on(rt: HostRuntime) -> Result<(), Fail> {
     let tally = Tally::new(rt.alloc(), None)?;
     let begun = Instant::now(&rt)?;
     let mut stopwatch = Stopwatch::new(&tally);
     stopwatch.begin(&rt, Some(begun));
-    for (millis, writing, condition) in [
-        (0, 0, Condition::Well),
-        (9_999, 9, Condition::Well),
-        (10_000, 10, Condition::Hangs),
-        (11_000, 11, Condition::Hangs),
-    ] {
-        let told = told_behind(&rt, rt.alloc(), &tally, begun, millis).expect(&rt, "ample memory");
-        assert!(rt; told.writing == writing);
-        assert!(rt; told.condition == condition);
+    for (millis, writing, condition) in WRITINGS {
+        is_writing(&rt, rt.alloc(), &tally, begun, millis, (writing, condition));
     }
     // it is done, as it may be where it failed
     stopwatch.end(&rt, begun.checked_add(Duration::from_secs(11)));
+    is_writing(&rt, rt.alloc(), &tally, begun, 30_000, (0, Condition::Well));
     let told = told_behind(&rt, rt.alloc(), &tally, begun, 30_000)?;
-    assert!(rt; (told.writing, told.condition) == (0, Condition::Well));
     assert!(rt; (told.commits.count, told.commits.micros) == (1, 11_000_000));
+    drop(told);
     Ok(())
 }
 

@@ -107,10 +107,18 @@ impl<V: Device, J: Naming, A: NodeLedger> Station<V, J, A> {
             Step::Reads(name, leads) => self.client.reads(rt, name, leads),
             Step::Leader(name, term, bid, node) => self.client.knows(rt, name, term, bid, node),
             Step::Below(name, term, floor) => self.client.is_below(rt, name, term, floor),
-            Step::IsPublished(is) => assert!(rt; self.flusher.is_published() == is),
-            Step::Epoch(epoch) => assert!(rt; self.flusher.epoch() == epoch),
-            Step::Used(bytes) => assert!(rt; self.hub.look(rt).used == bytes),
-            Step::IsDue(is_due) => assert!(rt; self.hub.look(rt).is_due == is_due),
+            step => assert!(rt; self.is_so(rt, step)),
+        }
+    }
+
+    /// Whether it is as the step says.
+    fn is_so<R: Wait>(&self, rt: &R, step: Step) -> bool {
+        match step {
+            Step::IsPublished(is) => self.flusher.is_published() == is,
+            Step::Epoch(epoch) => self.flusher.epoch() == epoch,
+            Step::Used(bytes) => self.hub.look(rt).used == bytes,
+            Step::IsDue(is_due) => self.hub.look(rt).is_due == is_due,
+            _ => false,
         }
     }
 
