@@ -15,7 +15,6 @@ mod links;
 mod marks;
 mod node;
 mod pace;
-mod platform;
 mod ports;
 mod post;
 mod ring;
@@ -30,7 +29,6 @@ mod turnstile;
 mod watch;
 mod window;
 
-pub use platform::Platform;
 pub use post::Post;
 pub use ring::{Ring, serve_ring};
 pub use ringd::start;

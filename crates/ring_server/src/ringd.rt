@@ -4,7 +4,6 @@ ghost use Rattle.ring_records.specs.declared.limits.TheConstants.{DOORS};
 ghost use Rattle.ring_service.specs.Words.{IsIn};
 ghost use Rattle.ring_start.specs.Fits.{found_as, IsInOrder, Fits};
 
-use crate::platform::Platform;
 use crate::ports::Ports;
 use crate::post::Post;
 use crate::ring::{Ring, serve_ring};
@@ -24,14 +23,16 @@ use ring_watch::{Inquiry, StatusPort};
 use std::alloc::{AllocError, Global};
 use std::fs::File;
 use std::io::{Read, Write};
-use std::net::TcpListener;
+use std::net::{Net, TcpListener, TcpStream};
 use std::rt::Files;
+use std::sync::Wait;
+use std::thread::Threads;
 use std::time::Clock;
 
 /// Runs `ringd` on these words, of which the first is the program's name, and gives the status to end with. Settings
 /// are read from `settings` where the words name no file. Where `err` is systemd's journal, its lines have the form for that
 /// unless the words say another one.
-pub fn start<R: Platform, I: Read, O: Write, E: Write>(
+pub fn start<R, I: Read, O: Write, E: Write>(
     rt: &R,
     alloc: Global,
     said: &[&str],
@@ -39,7 +40,18 @@ pub fn start<R: Platform, I: Read, O: Write, E: Write>(
     settings: &mut I,
     out: &mut O,
     err: &mut E,
-) -> u8 {
+) -> u8
+where
+    R: Threads
+        + Wait
+        + Sync
+        + Send
+        + Copy
+        + 'static
+        + Clock
+        + Files<File = File>
+        + Net<Listener = TcpListener, Stream = TcpStream>,
+{
     let words = match read_words(alloc, said) {
         Ok(words) => words,
         Err(error) => {
@@ -99,7 +111,7 @@ struct Call<'a> {
     log: LogForm,
 }
 
-fn run<R: Platform, I: Read, O: Write, E: Write>(
+fn run<R, I: Read, O: Write, E: Write>(
     rt: &R,
     alloc: Global,
     call: &Call<'_>,
@@ -108,6 +120,16 @@ fn run<R: Platform, I: Read, O: Write, E: Write>(
     out: &mut O,
     err: &mut E,
 ) -> Result<u8, RunFault>
+where
+    R: Threads
+        + Wait
+        + Sync
+        + Send
+        + Copy
+        + 'static
+        + Clock
+        + Files<File = File>
+        + Net<Listener = TcpListener, Stream = TcpStream>,
     requires doors { IsIn 1 DOORS call.now.words.doors }
     requires leap { IsIn 0 999999999 call.now.words.leap }
 {
@@ -194,7 +216,7 @@ fn make<R: Files<File = File> + Clock, O: Write, E: Write>(
 
 /// Finds the nodes, has their ports, makes the nodes ready, and serves so many sessions at each, or without end. Where
 /// the start is refused, what it made is gone.
-fn serve<R: Platform, O: Write, E: Write>(
+fn serve<R, O: Write, E: Write>(
     rt: &R,
     alloc: Global,
     settings: &Settings,
@@ -203,6 +225,16 @@ fn serve<R: Platform, O: Write, E: Write>(
     out: &mut O,
     err: &mut E,
 ) -> Result<u8, RunFault>
+where
+    R: Threads
+        + Wait
+        + Sync
+        + Send
+        + Copy
+        + 'static
+        + Clock
+        + Files<File = File>
+        + Net<Listener = TcpListener, Stream = TcpStream>,
     requires doors { IsIn 1 DOORS call.now.words.doors }
     requires leap { IsIn 0 999999999 call.now.words.leap }
 {
@@ -228,7 +260,7 @@ fn serve<R: Platform, O: Write, E: Write>(
 }
 
 /// Makes the nodes ready that were found, and serves with them. Refused only where nothing was served.
-fn serve_found<R: Platform, O: Write, E: Write>(
+fn serve_found<R, O: Write, E: Write>(
     rt: &R,
     basis: &Basis<'_>,
     found: Vec<Found<FileDevice>>,
@@ -237,6 +269,16 @@ fn serve_found<R: Platform, O: Write, E: Write>(
     out: &mut O,
     err: &mut E,
 ) -> Result<u8, RunFault>
+where
+    R: Threads
+        + Wait
+        + Sync
+        + Send
+        + Copy
+        + 'static
+        + Clock
+        + Files<File = File>
+        + Net<Listener = TcpListener, Stream = TcpStream>,
     requires order { IsInOrder found_as found.items }
     requires count { length found.items ≡ basis.now.target.now.nodes }
     requires fits { Fits found_as basis.now.target.now.nodes found.items }

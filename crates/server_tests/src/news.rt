@@ -4,11 +4,14 @@ use crate::devices::Served;
 use crate::programs::{Ring, Scenario, beside, runs};
 use crate::steps::runs_anew;
 use crate::visits::{Say, Visit, asks};
-use ring_server::Platform;
 use std::alloc::AllocGlobal;
-use std::net::{Net, TcpStream};
+use std::fs::File;
+use std::net::{Net, TcpListener, TcpStream};
 use std::process::Abort;
+use std::rt::Files;
+use std::sync::Wait;
 use std::test::*;
+use std::thread::Threads;
 use std::time::Clock;
 
 const FAILED: &[u8] = b"ringd: node 2 failed\nringd: ring/node-2.crj: write: other error\n";
@@ -27,7 +30,20 @@ const ONE_FAILS: Served = Served {
 
 /// Node 2 of a ring behind this port, of which two calls made each node, fails with the next call but so many. It is told
 /// so once, and a client of each other node is served meanwhile.
-fn fails_behind<R: Platform + Abort + AllocGlobal>(rt: &R, port: u16, calls: u64) {
+fn fails_behind<R>(rt: &R, port: u16, calls: u64)
+where
+    R: Threads
+        + Wait
+        + Sync
+        + Send
+        + Copy
+        + 'static
+        + Clock
+        + Abort
+        + AllocGlobal
+        + Files<File = File>
+        + Net<Listener = TcpListener, Stream = TcpStream>,
+{
     let ring = Ring::Three(Served {
         port,
         fails_after: calls.saturating_add(2),
@@ -46,7 +62,20 @@ fn fails_behind<R: Platform + Abort + AllocGlobal>(rt: &R, port: u16, calls: u64
 }
 
 /// The same of each of these calls.
-fn fails_at_each<R: Platform + Abort + AllocGlobal>(rt: &R, port: u16, first: u64, end: u64) {
+fn fails_at_each<R>(rt: &R, port: u16, first: u64, end: u64)
+where
+    R: Threads
+        + Wait
+        + Sync
+        + Send
+        + Copy
+        + 'static
+        + Clock
+        + Abort
+        + AllocGlobal
+        + Files<File = File>
+        + Net<Listener = TcpListener, Stream = TcpStream>,
+{
     for calls in first..end {
         fails_behind(rt, port, calls);
     }

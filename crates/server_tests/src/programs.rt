@@ -1,11 +1,16 @@
 // The program and rings, run to their end.
 use crate::devices::{Served, serve_three};
 use crate::visits::{Visit, come_out};
-use ring_server::{Platform, start};
+use ring_server::start;
 use std::alloc::AllocGlobal;
+use std::fs::File;
+use std::net::{Net, TcpListener, TcpStream};
 use std::process::Abort;
+use std::rt::Files;
+use std::sync::Wait;
 use std::sync::atomic::AtomicU64;
-use std::thread::join;
+use std::thread::{Threads, join};
+use std::time::Clock;
 
 /// How a run ended: the status, and what was written to standard output and standard error.
 #[derive(Drop)]
@@ -38,7 +43,19 @@ pub struct Scenario {
 }
 
 /// Runs the program on these words and settings, to its end.
-pub fn run<R: Platform + AllocGlobal>(rt: &R, words: &[&str], settings: &[u8]) -> Ended {
+pub fn run<R>(rt: &R, words: &[&str], settings: &[u8]) -> Ended
+where
+    R: Threads
+        + Wait
+        + Sync
+        + Send
+        + Copy
+        + 'static
+        + Clock
+        + AllocGlobal
+        + Files<File = File>
+        + Net<Listener = TcpListener, Stream = TcpStream>,
+{
     let mut out = Vec::new(rt.alloc());
     let mut err = Vec::new(rt.alloc());
     let status = start(
@@ -54,7 +71,20 @@ pub fn run<R: Platform + AllocGlobal>(rt: &R, words: &[&str], settings: &[u8]) -
 }
 
 /// Runs the ring to its end. How long standard error is stands in `seen` meanwhile, where it is over devices in memory.
-fn serve<R: Platform + Abort + AllocGlobal>(rt: &R, ring: Ring, seen: &AtomicU64) -> Ended {
+fn serve<R>(rt: &R, ring: Ring, seen: &AtomicU64) -> Ended
+where
+    R: Threads
+        + Wait
+        + Sync
+        + Send
+        + Copy
+        + 'static
+        + Clock
+        + Abort
+        + AllocGlobal
+        + Files<File = File>
+        + Net<Listener = TcpListener, Stream = TcpStream>,
+{
     match ring {
         Ring::Program(words, settings) => run(rt, words, settings),
         Ring::Three(served) => serve_three(rt, served, seen),
@@ -73,12 +103,20 @@ impl Scenario {
 }
 
 /// The ring serves one row of clients. Whether they are answered as they are to be.
-fn serve_one<R: Platform + Abort + AllocGlobal>(
-    rt: &R,
-    ring: Ring,
-    row: &[Visit],
-    seen: &AtomicU64,
-) -> (bool, Ended) {
+fn serve_one<R>(rt: &R, ring: Ring, row: &[Visit], seen: &AtomicU64) -> (bool, Ended)
+where
+    R: Threads
+        + Wait
+        + Sync
+        + Send
+        + Copy
+        + 'static
+        + Clock
+        + Abort
+        + AllocGlobal
+        + Files<File = File>
+        + Net<Listener = TcpListener, Stream = TcpStream>,
+{
     join(
         rt,
         move || come_out(rt, row, seen),
@@ -87,13 +125,26 @@ fn serve_one<R: Platform + Abort + AllocGlobal>(
 }
 
 /// The ring serves two rows of clients beside each other. Whether they are answered as they are to be.
-fn serve_two<R: Platform + Abort + AllocGlobal>(
+fn serve_two<R>(
     rt: &R,
     ring: Ring,
     first: &[Visit],
     second: &[Visit],
     seen: &AtomicU64,
-) -> (bool, Ended) {
+) -> (bool, Ended)
+where
+    R: Threads
+        + Wait
+        + Sync
+        + Send
+        + Copy
+        + 'static
+        + Clock
+        + Abort
+        + AllocGlobal
+        + Files<File = File>
+        + Net<Listener = TcpListener, Stream = TcpStream>,
+{
     let (one, (two, ended)) = join(
         rt,
         move || come_out(rt, first, seen),
@@ -103,13 +154,20 @@ fn serve_two<R: Platform + Abort + AllocGlobal>(
 }
 
 /// The ring serves the clients, who are answered as they are to be, each row of them in a thread of its own.
-pub fn beside<R: Platform + Abort + AllocGlobal>(
-    rt: &R,
-    ring: Ring,
-    first: &[Visit],
-    second: &[Visit],
-    third: &[Visit],
-) -> Ended {
+pub fn beside<R>(rt: &R, ring: Ring, first: &[Visit], second: &[Visit], third: &[Visit]) -> Ended
+where
+    R: Threads
+        + Wait
+        + Sync
+        + Send
+        + Copy
+        + 'static
+        + Clock
+        + Abort
+        + AllocGlobal
+        + Files<File = File>
+        + Net<Listener = TcpListener, Stream = TcpStream>,
+{
     let seen = AtomicU64::new(0);
     let seen = &seen;
     let (one, (others, ended)) = join(
@@ -122,7 +180,20 @@ pub fn beside<R: Platform + Abort + AllocGlobal>(
 }
 
 /// The ring serves the clients, and ends so.
-pub fn runs<R: Platform + Abort + AllocGlobal>(rt: &R, scenario: &Scenario) {
+pub fn runs<R>(rt: &R, scenario: &Scenario)
+where
+    R: Threads
+        + Wait
+        + Sync
+        + Send
+        + Copy
+        + 'static
+        + Clock
+        + Abort
+        + AllocGlobal
+        + Files<File = File>
+        + Net<Listener = TcpListener, Stream = TcpStream>,
+{
     let rows = &scenario.visits;
     let ended = beside(rt, scenario.ring, rows[0], rows[1], rows[2]);
     scenario.ends(rt, &ended);

@@ -3,13 +3,18 @@ use crate::programs::run;
 use crate::steps::Change::{Anew, Clears};
 use crate::steps::Step::{Changes, Ends, EndsBesidePort};
 use crate::steps::{SERVE, Step, plays};
-use ring_server::{Platform, start};
+use ring_server::start;
 use ring_service::Host;
 use std::alloc::AllocGlobal;
 use std::fs;
 use std::fs::File;
+use std::net::{Net, TcpListener, TcpStream};
 use std::process::Abort;
+use std::rt::Files;
+use std::sync::Wait;
 use std::test::*;
+use std::thread::Threads;
+use std::time::Clock;
 
 const NONE: &[&str] = &["ringd"];
 
@@ -93,7 +98,20 @@ fn settings_have_a_million_bytes_at_most(rt: HostRuntime) {
 }
 
 /// The program ends well on these words and settings, and prints this alone.
-fn shows<R: Platform + Abort + AllocGlobal>(rt: &R, words: &[&str], settings: &[u8], text: &[u8]) {
+fn shows<R>(rt: &R, words: &[&str], settings: &[u8], text: &[u8])
+where
+    R: Threads
+        + Wait
+        + Sync
+        + Send
+        + Copy
+        + 'static
+        + Clock
+        + Abort
+        + AllocGlobal
+        + Files<File = File>
+        + Net<Listener = TcpListener, Stream = TcpStream>,
+{
     let ended = run(rt, words, settings);
     assert!(rt; ended.status == 0);
     assert!(rt; ended.err.is_empty());
@@ -111,7 +129,20 @@ fn settings_that_are_shown(rt: HostRuntime) {
 }
 
 /// The words end the program with this status, and are told of on standard error, or else on standard output.
-fn told<R: Platform + Abort + AllocGlobal>(rt: &R, words: &[&str], status: u8) {
+fn told<R>(rt: &R, words: &[&str], status: u8)
+where
+    R: Threads
+        + Wait
+        + Sync
+        + Send
+        + Copy
+        + 'static
+        + Clock
+        + Abort
+        + AllocGlobal
+        + Files<File = File>
+        + Net<Listener = TcpListener, Stream = TcpStream>,
+{
     let ended = run(rt, words, b"");
     assert!(rt; ended.status == status);
     assert!(rt; ended.out.is_empty() == (status != 0));
@@ -147,7 +178,7 @@ fn hosts_to_listen_at(rt: HostRuntime) -> Result<(), Fail> {
             Some(Host::Name(name)) => format!(in rt.alloc(); "name {name}")?,
             None => format!(in rt.alloc(); "none")?,
         };
-        assert!(rt; told.as_str() == wanted);
+        assert!(rt; told.as_str() == wanted, "{text}");
     }
     Ok(())
 }

@@ -3,14 +3,16 @@ use crate::checkpoints::{epoch_of, layouts_of};
 use crate::looks::last_line;
 use crate::programs::{Ended, Ring, Scenario, beside, run, runs};
 use crate::visits::{Say, Visit};
-use ring_server::Platform;
 use std::alloc::AllocGlobal;
 use std::fs;
 use std::fs::File;
-use std::net::{Ipv4Addr, TcpListener};
+use std::net::{Ipv4Addr, Net, TcpListener, TcpStream};
 use std::process::Abort;
 use std::rt::Files;
+use std::sync::Wait;
 use std::test::*;
+use std::thread::Threads;
+use std::time::Clock;
 
 /// The words by which each node serves one session.
 pub const SERVE: &[&str] = &["ringd", "--serve", "1"];
@@ -173,13 +175,20 @@ fn ends_well(rt: &impl Abort, ended: &Ended) {
 }
 
 /// A ring of two serves one session each, and ends well. Node 1, at this port, is asked this and answers so.
-fn serves<R: Platform + Abort + AllocGlobal>(
-    rt: &R,
-    settings: &'static [u8],
-    port: u16,
-    line: &'static [u8],
-    text: &'static [u8],
-) {
+fn serves<R>(rt: &R, settings: &'static [u8], port: u16, line: &'static [u8], text: &'static [u8])
+where
+    R: Threads
+        + Wait
+        + Sync
+        + Send
+        + Copy
+        + 'static
+        + Clock
+        + Abort
+        + AllocGlobal
+        + Files<File = File>
+        + Net<Listener = TcpListener, Stream = TcpStream>,
+{
     let visits = [
         Visit::Asks(port, line, text),
         Visit::Asks(port.saturating_add(1), b"who red 1\n", b"none"),
@@ -189,13 +198,26 @@ fn serves<R: Platform + Abort + AllocGlobal>(
 }
 
 /// A ring of two serves one session each, and ends well. Clients of node 1, at this port, and of node 2 say this.
-fn elects<R: Platform + Abort + AllocGlobal>(
+fn elects<R>(
     rt: &R,
     settings: &'static [u8],
     port: u16,
     first: &'static [Say],
     second: &'static [Say],
-) {
+)
+where
+    R: Threads
+        + Wait
+        + Sync
+        + Send
+        + Copy
+        + 'static
+        + Clock
+        + Abort
+        + AllocGlobal
+        + Files<File = File>
+        + Net<Listener = TcpListener, Stream = TcpStream>,
+{
     let one = [Visit::Says(port, first)];
     let two = [Visit::Says(port.saturating_add(1), second)];
     let ended = beside(rt, Ring::Program(SERVE, settings), &one, &two, &[]);
@@ -203,20 +225,40 @@ fn elects<R: Platform + Abort + AllocGlobal>(
 }
 
 /// The program ends so on these words and settings, with this text on standard error.
-fn ends<R: Platform + Abort + AllocGlobal>(
-    rt: &R,
-    words: &[&str],
-    settings: &[u8],
-    status: u8,
-    text: &[u8],
-) {
+fn ends<R>(rt: &R, words: &[&str], settings: &[u8], status: u8, text: &[u8])
+where
+    R: Threads
+        + Wait
+        + Sync
+        + Send
+        + Copy
+        + 'static
+        + Clock
+        + Abort
+        + AllocGlobal
+        + Files<File = File>
+        + Net<Listener = TcpListener, Stream = TcpStream>,
+{
     let ended = run(rt, words, settings);
     assert!(rt; ended.status == status);
     assert!(rt; ended.err.as_slice() == text);
 }
 
 /// It looks at the ring of two, tells all of it, and ends so. Its last line begins so.
-fn looks<R: Platform + Abort + AllocGlobal>(rt: &R, settings: &[u8], status: u8, text: &[u8]) {
+fn looks<R>(rt: &R, settings: &[u8], status: u8, text: &[u8])
+where
+    R: Threads
+        + Wait
+        + Sync
+        + Send
+        + Copy
+        + 'static
+        + Clock
+        + Abort
+        + AllocGlobal
+        + Files<File = File>
+        + Net<Listener = TcpListener, Stream = TcpStream>,
+{
     let ended = run(rt, CHECK, settings);
     assert!(rt; ended.status == status);
     assert!(rt; ended.err.is_empty());
@@ -225,31 +267,59 @@ fn looks<R: Platform + Abort + AllocGlobal>(rt: &R, settings: &[u8], status: u8,
 }
 
 /// It ends so where this file or folder is locked.
-fn ends_beside_lock<R: Platform + Abort + AllocGlobal>(
-    rt: &R,
-    path: &str,
-    settings: &[u8],
-    text: &[u8],
-) {
+fn ends_beside_lock<R>(rt: &R, path: &str, settings: &[u8], text: &[u8])
+where
+    R: Threads
+        + Wait
+        + Sync
+        + Send
+        + Copy
+        + 'static
+        + Clock
+        + Abort
+        + AllocGlobal
+        + Files<File = File>
+        + Net<Listener = TcpListener, Stream = TcpStream>,
+{
     let file = File::open(rt, path).expect(rt, "a file");
     assert!(rt; file.try_lock().is_ok());
     ends(rt, SERVE, settings, 1, text);
 }
 
 /// It ends so where this port is in use.
-fn ends_beside_port<R: Platform + Abort + AllocGlobal>(
-    rt: &R,
-    port: u16,
-    words: &[&str],
-    settings: &[u8],
-    text: &[u8],
-) {
+fn ends_beside_port<R>(rt: &R, port: u16, words: &[&str], settings: &[u8], text: &[u8])
+where
+    R: Threads
+        + Wait
+        + Sync
+        + Send
+        + Copy
+        + 'static
+        + Clock
+        + Abort
+        + AllocGlobal
+        + Files<File = File>
+        + Net<Listener = TcpListener, Stream = TcpStream>,
+{
     let listener = TcpListener::bind(rt, (Ipv4Addr::LOCALHOST, port)).expect(rt, "a port");
     ends(rt, words, settings, 1, text);
     assert!(rt; listener.local_addr().is_ok());
 }
 
-fn does<R: Platform + Abort + AllocGlobal>(rt: &R, step: Step) {
+fn does<R>(rt: &R, step: Step)
+where
+    R: Threads
+        + Wait
+        + Sync
+        + Send
+        + Copy
+        + 'static
+        + Clock
+        + Abort
+        + AllocGlobal
+        + Files<File = File>
+        + Net<Listener = TcpListener, Stream = TcpStream>,
+{
     match step {
         Step::Changes(all) => {
             for change in all {
@@ -269,14 +339,40 @@ fn does<R: Platform + Abort + AllocGlobal>(rt: &R, step: Step) {
 }
 
 /// In an empty folder, which is gone behind it, the ring serves the clients and ends so.
-pub fn runs_anew<R: Platform + Abort + AllocGlobal>(rt: &R, folder: &str, scenario: &Scenario) {
+pub fn runs_anew<R>(rt: &R, folder: &str, scenario: &Scenario)
+where
+    R: Threads
+        + Wait
+        + Sync
+        + Send
+        + Copy
+        + 'static
+        + Clock
+        + Abort
+        + AllocGlobal
+        + Files<File = File>
+        + Net<Listener = TcpListener, Stream = TcpStream>,
+{
     anew(rt, folder);
     runs(rt, scenario);
     assert!(rt; fs::remove_dir_all(rt, folder).is_ok());
 }
 
 /// This is done, step by step.
-pub fn plays<R: Platform + Abort + AllocGlobal>(rt: &R, steps: &[Step]) {
+pub fn plays<R>(rt: &R, steps: &[Step])
+where
+    R: Threads
+        + Wait
+        + Sync
+        + Send
+        + Copy
+        + 'static
+        + Clock
+        + Abort
+        + AllocGlobal
+        + Files<File = File>
+        + Net<Listener = TcpListener, Stream = TcpStream>,
+{
     for step in steps {
         does(rt, *step);
     }
