@@ -3,13 +3,15 @@ ghost use Rattle.std.specs.Prelude.{◌≤◌};
 
 use crate::clients::{answers, connect};
 use crate::programs::Ended;
+use crossbeam_channel::Receiver;
 use disk_model::{Device, FuseDevice, MemDevice};
 use log_lines::LogForm;
 use node_store::Node;
+use ring_post::Letter;
 use ring_records::{Bid, GroupName, Key, NodeNo, Refusal, Request, Term};
 use ring_server::{Doors, Post, Ring, Site, serve_ring};
 use ring_start::OpenNode;
-use ring_watch::{Facts, Reception, StatusPort};
+use ring_watch::{Facts, Inquiry, Reception, StatusPort};
 use std::alloc::{AllocGlobal, Global};
 use std::io;
 use std::io::Write;
@@ -215,6 +217,70 @@ fn port_of<R: AllocGlobal + Net<Listener = TcpListener, Stream = TcpStream>>(
     Some(StatusPort::new(listener, facts, reception, 0))
 }
 
+/// Where this node of three is served.
+fn site<R: Abort + AllocGlobal + Net<Listener = TcpListener, Stream = TcpStream>>(
+    rt: &R,
+    number: u8,
+    served: Served,
+    inbox: Receiver<Letter>,
+    asked: Option<Receiver<Inquiry>>,
+) -> Site<FuseDevice<MemDevice>> {
+    let opened = opened(rt, number, served).expect(rt, "a node");
+    let listener = listen(rt, number, served);
+    let doors = Doors::new(1, served.sessions, 0);
+    Site::new(rt.alloc(), opened, inbox, listener, doors, asked)
+}
+
+/// Where the three nodes are served, each with a clerk or none.
+fn sites<R: Abort + AllocGlobal + Net<Listener = TcpListener, Stream = TcpStream>>(
+    rt: &R,
+    served: Served,
+    inboxes: Vec<Receiver<Letter>>,
+    clerks: Vec<Receiver<Inquiry>>,
+) -> Vec<Site<FuseDevice<MemDevice>>> {
+    let mut clerks = clerks.into_iter();
+    let mut sites = Vec::new(rt.alloc());
+    let mut number = 0u8;
+    for inbox in inboxes {
+        number = number.saturating_add(1);
+        let site = site(rt, number, served, inbox, clerks.next());
+        assert!(rt; sites.push(site).is_ok());
+    }
+    sites
+}
+
+/// The clerks, where an operator is told of the nodes.
+fn clerks_of(alloc: Global, clerks: Vec<Receiver<Inquiry>>, told: bool) -> Vec<Receiver<Inquiry>> {
+    if told {
+        clerks
+    } else {
+        drop(clerks);
+        Vec::new(alloc)
+    }
+}
+
+/// The ring of three.
+fn ring_of<R: Abort + AllocGlobal + Net<Listener = TcpListener, Stream = TcpStream>>(
+    rt: &R,
+    served: Served,
+) -> Ring<FuseDevice<MemDevice>> {
+    let alloc = rt.alloc();
+    let (post, inboxes) = Post::new(alloc, 3).expect(rt, "ample memory");
+    let (reception, clerks) = Reception::new(alloc, 3).expect(rt, "ample memory");
+    let status = port_of(rt, served, reception);
+    let clerks = clerks_of(alloc, clerks, status.is_some());
+    let sites = sites(rt, served, inboxes, clerks);
+    Ring {
+        sites,
+        post,
+        status,
+        fail_stop: served.fail_stop,
+        dir: String::from_str(alloc, "ring").expect(rt, "memory"),
+        log: LogForm::Plain,
+        verbose: served.verbose,
+    }
+}
+
 /// Serves the three nodes to their end. How long standard error is stands in `len` meanwhile.
 pub fn serve_three<
     R: Threads
@@ -228,40 +294,17 @@ pub fn serve_three<
         + AllocGlobal
         + Net<Listener = TcpListener, Stream = TcpStream>,
 >(rt: &R, served: Served, len: &AtomicU64) -> Ended {
-    let alloc = rt.alloc();
-    let mut out = Vec::new(alloc);
+    let mut out = Vec::new(rt.alloc());
     let mut err = Seen {
-        text: Vec::new(alloc),
+        text: Vec::new(rt.alloc()),
         len,
     };
-    let (post, inboxes) = Post::new(alloc, 3).expect(rt, "ample memory");
-    let (reception, clerks) = Reception::new(alloc, 3).expect(rt, "ample memory");
-    let told = port_of(rt, served, reception);
-    let mut clerks = clerks.into_iter();
-    let mut sites = Vec::new(alloc);
-    let mut number = 0u8;
-    for inbox in inboxes {
-        number = number.saturating_add(1);
-        let opened = opened(rt, number, served).expect(rt, "a node");
-        let listener = listen(rt, number, served);
-        let doors = Doors::new(1, served.sessions, 0);
-        let asked = if told.is_some() { clerks.next() } else { None };
-        let site = Site::new(alloc, opened, inbox, listener, doors, asked);
-        assert!(rt; sites.push(site).is_ok());
-    }
-    let ring = Ring {
-        sites,
-        post,
-        status: told,
-        fail_stop: served.fail_stop,
-        dir: String::from_str(alloc, "ring").expect(rt, "memory"),
-        log: LogForm::Plain,
-        verbose: served.verbose,
-    };
-    let status = serve_ring(rt, alloc, ring, &mut out, &mut err);
+    let ring = ring_of(rt, served);
+    let status = serve_ring(rt, rt.alloc(), ring, &mut out, &mut err);
+    let status = status.expect(rt, "a ring that is served");
     let Seen { text, len: _ } = err;
     Ended {
-        status: status.expect(rt, "a ring that is served"),
+        status,
         out,
         err: text,
     }

@@ -178,7 +178,7 @@ fn hosts_to_listen_at(rt: HostRuntime) -> Result<(), Fail> {
             Some(Host::Name(name)) => format!(in rt.alloc(); "name {name}")?,
             None => format!(in rt.alloc(); "none")?,
         };
-        assert!(rt; told.as_str() == wanted, "{text}");
+        assert!(rt; told.as_str() == wanted);
     }
     Ok(())
 }

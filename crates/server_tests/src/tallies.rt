@@ -4,7 +4,8 @@ use ring_post::{Letter, RingPlace};
 use ring_records::{Bid, Candidate, GroupName, Key, Msg, NodeNo, Packet, Shown, Term};
 use ring_server::Post;
 use ring_status::{
-    Bound, Condition, Counts, Holding, Landing, Letters, NodeStatus, Place, node_status,
+    Bound, CommitTimes, Condition, Counts, Holding, Landing, Letters, NodeStatus, Place,
+    node_status,
 };
 use ring_watch::{Stopwatch, Tally};
 use std::alloc::{AllocError, Global};
@@ -32,32 +33,41 @@ static BOUNDS: [(u64, &str); 8] = [
     (10_000_000, "10"),
 ];
 
+/// A commit that was not begun is not counted, nor one of which no clock tells.
+fn counts_none<R: Abort + Wait>(rt: &R, alloc: Global, tally: &Tally, begun: Instant) {
+    Stopwatch::new(tally).end(rt, Some(begun));
+    let mut stopwatch = Stopwatch::new(tally);
+    stopwatch.begin(rt, None);
+    stopwatch.end(rt, Some(begun));
+    let told = tally.commits(alloc).expect(rt, "ample memory");
+    assert!(rt; told.count == 0);
+    drop(told);
+}
+
+/// Each bound was met, and was missed by a microsecond.
+fn are_counted(rt: &impl Abort, told: &CommitTimes) {
+    assert!(rt; told.within.len() == 8);
+    assert!(rt; (told.count, told.micros) == (16, 26_262_408));
+    let mut within = 1u64;
+    for (row, told) in BOUNDS.iter().zip(&told.within) {
+        assert!(rt; (told.bound.micros(), told.bound.seconds()) == *row);
+        assert!(rt; told.count == within);
+        within = within.saturating_add(2);
+    }
+}
+
 #[test]
 fn commits_are_counted_by_how_long_they_took(rt: HostRuntime) -> Result<(), Fail> {
     let tally = Tally::new(rt.alloc(), None)?;
     let begun = Instant::now(&rt)?;
-    // none was begun, and one was of which no clock tells
-    Stopwatch::new(&tally).end(&rt, Some(begun));
-    let mut stopwatch = Stopwatch::new(&tally);
-    stopwatch.begin(&rt, None);
-    stopwatch.end(&rt, Some(begun));
-    assert!(rt; tally.commits(rt.alloc())?.count == 0);
-    // each bound, and a microsecond more
+    counts_none(&rt, rt.alloc(), &tally, begun);
     for row in &BOUNDS {
         commit(&rt, &tally, begun, row.0);
         commit(&rt, &tally, begun, row.0.saturating_add(1));
     }
     let told = tally.commits(rt.alloc())?;
-    assert!(rt; told.within.len() == 8);
-    assert!(rt; told.count == 16);
-    assert!(rt; told.micros == 26_262_408);
-    let mut within = 1u64;
-    for (row, told) in BOUNDS.iter().zip(&told.within) {
-        assert!(rt; told.bound.seconds() == row.1);
-        assert!(rt; told.bound.micros() == row.0);
-        assert!(rt; told.count == within);
-        within = within.saturating_add(2);
-    }
+    are_counted(&rt, &told);
+    drop(told);
     assert!(rt; Bound::all().len() == 8);
     Ok(())
 }
