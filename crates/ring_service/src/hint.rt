@@ -2,6 +2,7 @@
 ghost use Rattle.std.specs.Prelude.{◌≡◌, ◌+◌, ◌≤◌, ◌==◌, ℕ, None, false, IfSome, count_by, length, string_bytes};
 ghost use Rattle.toml.specs.Parse.{parse_document};
 ghost use Rattle.ring_service.specs.Settings.{is_setting};
+ghost use Rattle.ring_service.specs.Words.{IsIn};
 
 use crate::settings::{all_printed, is_setting};
 use std::alloc::Global;
@@ -36,7 +37,7 @@ fn line_at(text: &[u8], place: usize) -> u64
 /// The key, where it prints and has 1 to 64 bytes, and memory is not wanting.
 fn shown(alloc: Global, key: &str) -> Option<String>
     ensures key { IfSome result (λ shown. string_bytes shown ≡ key.now) }
-    ensures few { IfSome result (λ shown. length (string_bytes shown) ≤ KEY_BYTES) }
+    ensures size { IfSome result (λ shown. IsIn 1 KEY_BYTES (length (string_bytes shown))) }
 {
     if 1 <= key.len() && key.len() <= KEY_BYTES && all_printed(key.as_bytes()) {
         String::from_str(alloc, key).ok()
@@ -48,7 +49,7 @@ fn shown(alloc: Global, key: &str) -> Option<String>
 /// The first key of the table that is no setting, where it can be shown.
 fn unknown_in(alloc: Global, table: &Table) -> Option<String>
     ensures unknown { IfSome result (λ key. is_setting (string_bytes key) ≡ false) }
-    ensures few { IfSome result (λ key. length (string_bytes key) ≤ KEY_BYTES) }
+    ensures size { IfSome result (λ key. IsIn 1 KEY_BYTES (length (string_bytes key))) }
 {
     let key = table.keys().find(|key| !is_setting(key.as_str()))?;
     shown(alloc, key.as_str())
@@ -57,7 +58,7 @@ fn unknown_in(alloc: Global, table: &Table) -> Option<String>
 /// The first key of a TOML text, in order of bytes, that is no setting, where it prints and has 1 to 64 bytes.
 pub fn unknown_key(alloc: Global, text: &str) -> Option<String>
     ensures unknown { IfSome result (λ key. is_setting (string_bytes key) ≡ false) }
-    ensures few { IfSome result (λ key. length (string_bytes key) ≤ KEY_BYTES) }
+    ensures size { IfSome result (λ key. IsIn 1 KEY_BYTES (length (string_bytes key))) }
 {
     let table = toml::table_from_str(alloc, text).ok()?;
     unknown_in(alloc, &table)

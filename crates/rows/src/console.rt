@@ -7,6 +7,7 @@ use crate::play::Player;
 use fault_console::Console;
 use std::alloc::{AllocError, Global};
 
+/// A script.
 pub struct Row;
 
 impl Player for Row {

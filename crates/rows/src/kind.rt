@@ -5,6 +5,7 @@ use crate::play::played;
 use crate::{console, node, session, settings};
 use std::alloc::{AllocError, Global};
 
+/// What the rows of a file ask.
 #[derive(Clone, Copy)]
 pub enum Kind {
     /// Scripts for a ring in memory.

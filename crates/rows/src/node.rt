@@ -13,6 +13,7 @@ use crate::node::players::Players;
 use crate::play::Player;
 use std::alloc::{AllocError, Global};
 
+/// The calls of a node.
 pub struct Row;
 
 impl Player for Row {

@@ -246,6 +246,7 @@ impl<'a> Playing<'a> {
     }
 }
 
+/// Sessions over a node.
 pub struct Row;
 
 impl Player for Row {

@@ -8,6 +8,7 @@ use crate::play::Player;
 use crate::settings::told::{tell_settings, tell_words};
 use std::alloc::{AllocError, Global};
 
+/// Settings, and words.
 pub struct Row;
 
 impl Player for Row {
