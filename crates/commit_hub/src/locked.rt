@@ -1,9 +1,8 @@
 //! What lies under a hub's lock: its desk, the book of its ledger, and what its tie knows too.
-ghost use Rattle.std.specs.Prelude.{◌≡◌, ◌≢◌, ◌↔◌, ◌+◌, ◌-◌, ◌≤◌, ◌<◌, ◌⊎◌, ◌||◌, ◌&&◌, not, ℕ, List, IsTrue, true, false, length, Some, None, IfOk, IfErr, IfNone, IfSome, MatchOption, OnOk, OnErr};
+ghost use Rattle.std.specs.Prelude.{◌≡◌, ◌≢◌, ◌↔◌, ◌+◌, ◌-◌, ◌≤◌, ◌<◌, ◌⊎◌, ◌||◌, ◌&&◌, ℕ, List, IsTrue, true, false, length, Some, None, IfOk, IfErr, IfNone, IfSome, MatchOption, OnOk, OnErr};
 ghost use Rattle.ring_records.specs.declared.input.Input.{Input};
-ghost use Rattle.ring_records.specs.Admission.{used};
 ghost use Rattle.ring_records.specs.Answer.{Answered};
-ghost use Rattle.ring_records.specs.States.{launched_base, durable_in};
+ghost use Rattle.ring_records.specs.States.{durable_in};
 ghost use Rattle.ring_records.specs.Lawful.{IsNodeState};
 ghost use Rattle.ring_records.specs.Props.{IsNodeState-prop};
 ghost use Rattle.ring_records.specs.Release.{packets, notices, window};
@@ -12,23 +11,24 @@ ghost use Rattle.group_commit.specs.Desk.{seen, ended, landed, objection, IsSubm
 ghost use Rattle.group_commit.specs.DeskCalls.{let_go, IsFlying};
 ghost use Rattle.group_commit.specs.Launching.{launch_objection, launched_next, IsNoWork, IsUnlaunched, IsWorkOf};
 ghost use Rattle.node_core.specs.Core.{IsNodeOf};
-ghost use Rattle.group_commit.specs.Next.{is_to_make_room, durable_part, with_batch, with_area, IsNext};
+ghost use Rattle.group_commit.specs.Next.{durable_part, with_batch, with_area, IsNext};
 ghost use Rattle.group_commit.specs.Past.{IsPast};
 ghost use Rattle.group_commit.specs.Ticket.{shown};
-ghost use Rattle.commit_hub.specs.Desks.{flying_part, is_done, is_resting, lands_next};
+ghost use Rattle.commit_hub.specs.Desks.{flying_part, is_done, is_resting};
 ghost use Rattle.commit_hub.specs.Over.{is_over};
 ghost use Rattle.commit_hub.specs.Holders.{begun_by, count_of, known_by, objection_to, view_by, IsNotLaunched};
 ghost use Rattle.commit_hub.specs.Pages.{ForAccepted, ForTie};
 ghost use Rattle.commit_hub.specs.Places.{places_of};
 ghost use Rattle.commit_hub.specs.Props.{member-prop, summary-prop, names-prop, durable-prop, flying-prop, IsNextArea-prop};
-ghost use Rattle.commit_hub.specs.Told.{IsBrought, IsLook, IsWindow, look_of, room_in, room_of};
+ghost use Rattle.commit_hub.specs.Told.{IsBrought, IsWindow};
 ghost use Rattle.commit_hub.specs.Works.{IsNextArea, stays_wanted};
 ghost use Rattle.gated_journal.specs.Works.{flown_by};
 ghost use Rattle.ring_records.specs.declared.reply.Reply.TheVariants as replied;
 
+mod looks;
+
 use crate::blanks::Blanks;
 use crate::ledgers::NodeLedger;
-use crate::look::Look;
 use crate::places::Places;
 use crate::share::{Begun, Share, Tie};
 use crate::tied::{Held, audit, follow, tell};
@@ -387,66 +387,6 @@ impl<A: NodeLedger> Locked<A> {
     {
         let list = self.shared.desk.window()?;
         Ok((list, self.tell()))
-    }
-
-    /// What the desk shows.
-    pub(crate) fn look(&self) -> Look
-        ensures counts { (past : List Input) → IsPast A.member A.opening past
-            → result ≡ look_of A.member (seen past self.now.shared.desk).state (room_of self.now.is_wanted self.now.shared.desk) (not (is_over self.now.shared.desk)) }
-        ensures room { room_in result ≡ room_of self.now.is_wanted self.now.shared.desk }
-        ensures epoch { result.epoch ≡ self.now.shared.desk.view.state.base.epoch }
-        ensures is_open { result.is_open ≡ not (is_over self.now.shared.desk) }
-        ensures inputs { result.shown.inputs ≡ self.now.shared.desk.opening.inputs + length self.now.shared.desk.view.state.inputs }
-        ensures durable { result.shown.durable ≡ self.now.shared.desk.opening.inputs + self.now.shared.desk.view.state.durable }
-        ensures used { result.used ≡ used (launched_base self.now.shared.desk.view.state) self.now.shared.desk.view.state.inputs }
-        ensures capacity { result.capacity ≡ A.member.capacity }
-        ensures lawful { IsLook A.member A.opening result }
-    {
-        let desk = &self.shared.desk;
-        Look {
-            shown: desk.shown(),
-            used: desk.used(),
-            snapshot: desk.summary_len(),
-            epoch: desk.epoch(),
-            layout: desk.layout(),
-            capacity: desk.capacity(),
-            stands: desk.stands(),
-            floors: desk.floor_count() as u64,
-            is_due: desk.due(),
-            frees_room: desk.frees_room(),
-            is_room_coming: self.is_room_coming(),
-            is_open: desk.is_open(),
-        }
-    }
-
-    /// Whether there is nothing to launch yet: all inputs are durable, more may come, and no checkpoint is to make room.
-    pub(crate) fn is_idle(&self) -> bool
-        ensures { result ≡ is_resting self.now.is_wanted self.now.shared.desk }
-    {
-        !self.shared.desk.waits() && self.shared.desk.is_open() && !self.is_room_coming()
-    }
-
-    /// Whether a checkpoint is to make room: it is due, or is wanted and frees some.
-    fn is_room_coming(&self) -> bool
-        ensures { result ≡ is_to_make_room self.now.is_wanted self.now.shared.desk }
-    {
-        self.shared.desk.is_to_make_room(self.is_wanted)
-    }
-
-    /// Whether who waits for room goes on waiting: a checkpoint is to make some, and the desk takes requests.
-    pub(crate) fn awaits_room(&self) -> bool
-        ensures { result ≡ (not (is_over self.now.shared.desk) && is_to_make_room self.now.is_wanted self.now.shared.desk) }
-    {
-        self.shared.desk.is_open() && self.is_room_coming()
-    }
-
-    /// Whether so many inputs are durable once the next batch lands, as far as is known: they fly, or nothing flies
-    /// yet.
-    pub(crate) fn lands_next(&self, number: u64) -> bool
-        ensures { result ≡ lands_next number self.now.shared.desk }
-    {
-        let flying = self.shared.desk.flying();
-        number <= flying || flying == self.shared.desk.durable()
     }
 }
 
