@@ -15,8 +15,8 @@ use Rattle.ring_world.specs.declared.event.Event.{Event}
 use Rattle.ring_world.specs.declared.event.Event.TheVariants.{Submit, Flush, Deliver, DeliverAll, Credit, Crash, Stop, Checkpoint, StopCheckpoint}
 use Rattle.line_words.specs.Forms.{line_says}
 use Rattle.fault_console.specs.Commands.{is_silent, shapes, commands}
-use Rattle.fault_console.specs.declared.commands.Command.{Command}
-use Rattle.fault_console.specs.declared.commands.Command.TheVariants as ask
+use Rattle.fault_console.specs.declared.commands.ConsoleCommand.{ConsoleCommand}
+use Rattle.fault_console.specs.declared.commands.ConsoleCommand.TheVariants as ask
 use Rattle.fault_console.specs.declared.commands.RingShape.{RingShape}
 use Rattle.fault_console.specs.Script.{Prints, LinePrints, Answers, Opens, Happens, Shows, Audits, Obeys, ring_line, reply_line, sealed_of, sealed_lines, asked_lines, lines_told, show_line, shown_at, unshown, audit_line, placed_of, MayPrint}
 
@@ -56,7 +56,7 @@ audits : (w : State) (refusal : Option Refusal) → Goes (Audits w refusal)
 audits w (Some refusal) = (refusal_text refusal ∷ [], Some w, (refl, refl))
 audits w None = (audit_line (placed_of w) ∷ [], Some w, (refl, refl))
 
-obeys : (w : State) (r : Result Command Refusal) → Goes (Obeys w r)
+obeys : (w : State) (r : Result ConsoleCommand Refusal) → Goes (Obeys w r)
 obeys w (Err refusal) = (refusal_text refusal ∷ [], Some w, (refl, refl))
 obeys w (Ok (ask.Event event)) = happens w event (refusal_of w event)
 obeys w (Ok (ask.Show node)) = shows w node (unshown w node)
@@ -134,7 +134,7 @@ opens_some : (r : Result RingShape Refusal) (out : List (List ℕ)) (next : Opti
 opens_some (Err refusal) out next h = one_line out _ h.0
 opens_some (Ok shape) out next h = one_line out _ h.0
 
-obeys_some : (w : State) (r : Result Command Refusal) (out : List (List ℕ)) (next : Option State) → Obeys w r out next → 1 ≤ length out
+obeys_some : (w : State) (r : Result ConsoleCommand Refusal) (out : List (List ℕ)) (next : Option State) → Obeys w r out next → 1 ≤ length out
 obeys_some w (Err refusal) out next h = one_line out _ h.0
 obeys_some w (Ok (ask.Event event)) out next h = happens_some w event (refusal_of w event) out next refl h
 obeys_some w (Ok (ask.Show node)) out next h = shows_some w node (unshown w node) out next h

@@ -8,8 +8,8 @@ use Rattle.ring_records.specs.declared.key.Key.{Key}
 use Rattle.ring_records.specs.declared.request.Request.{Request}
 use Rattle.ring_records.specs.declared.request.Request.TheVariants.{Stand, Retire, Who, Latest}
 use Rattle.ring_world.specs.declared.event.Event.TheVariants.{Submit, Flush, Deliver, DeliverAll, Credit, Crash, Stop, Checkpoint, StopCheckpoint}
-use Rattle.fault_console.specs.declared.commands.Command.{Command}
-use Rattle.fault_console.specs.declared.commands.Command.TheVariants as ask
+use Rattle.fault_console.specs.declared.commands.ConsoleCommand.{ConsoleCommand}
+use Rattle.fault_console.specs.declared.commands.ConsoleCommand.TheVariants as ask
 use Rattle.fault_console.specs.declared.commands.RingShape.{RingShape}
 
 -- Lines without a word, and lines whose first byte is '#', print nothing.
@@ -41,13 +41,13 @@ shapes =
 
 -- ---- afterwards: what is asked of a ring of so many nodes
 
-abbrev pub requested : ℕ → Request → Command
+abbrev pub requested : ℕ → Request → ConsoleCommand
 requested node request = ask.Event (Submit node request)
 
 abbrev pub key : List ℕ → ℕ → Key
 key group term = record { group = group; term = term }
 
-unfoldable pub commands : ℕ → List (Form Command)
+unfoldable pub commands : ℕ → List (Form ConsoleCommand)
 commands nodes =
     let node = Number 1 nodes in
     let count = Number 0 9999999999 in

@@ -18,8 +18,8 @@ use Rattle.ring_world.specs.declared.event.Event.{Event}
 use Rattle.ring_world.specs.declared.event.Event.TheVariants.{Submit, Flush, Deliver, DeliverAll, Credit, Crash, Stop, Checkpoint, StopCheckpoint}
 use Rattle.line_words.specs.Forms.{line_says}
 use Rattle.fault_console.specs.Commands.{is_silent, shapes, commands}
-use Rattle.fault_console.specs.declared.commands.Command.{Command}
-use Rattle.fault_console.specs.declared.commands.Command.TheVariants as ask
+use Rattle.fault_console.specs.declared.commands.ConsoleCommand.{ConsoleCommand}
+use Rattle.fault_console.specs.declared.commands.ConsoleCommand.TheVariants as ask
 use Rattle.fault_console.specs.declared.commands.RingShape.{RingShape}
 
 -- ---- the lines of a command
@@ -144,7 +144,7 @@ Audits w (Some refusal) out next = Refuses (Some w) refusal out next
 Audits w None out next = (out ≡ audit_line (placed_of w) ∷ []) × (next ≡ Some w)
 
 -- A command to the world w: the fault of the line, or an event, or a node to show, or an audit.
-abbrev pub Obeys : State → Result Command Refusal → Prints
+abbrev pub Obeys : State → Result ConsoleCommand Refusal → Prints
 Obeys w (Err refusal) out next = Refuses (Some w) refusal out next
 Obeys w (Ok (ask.Event event)) out next = Happens w event (refusal_of w event) out next
 Obeys w (Ok (ask.Show node)) out next = Shows w node (unshown w node) out next

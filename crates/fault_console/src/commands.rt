@@ -27,7 +27,7 @@ pub struct RingShape {
 
 /// What a line asks of a ring.
 #[derive(Clone, Copy)]
-pub enum Command {
+pub enum ConsoleCommand {
     /// That this happens.
     Event(Event),
     /// To show a node.
@@ -133,12 +133,12 @@ fn read_checkpoint_call(word: &[u8]) -> Result<u64, Refusal>
 
 // The command of one word.
 #[tactic(auto, unfolding(line_words::specs::Forms::form_says, crate::specs::Commands::commands))]
-fn of_one(nodes: u8, verb: &[u8]) -> Result<Command, Refusal>
+fn of_one(nodes: u8, verb: &[u8]) -> Result<ConsoleCommand, Refusal>
     requires { nodes ≤ 16 }
     ensures { result ≡ form_says (commands nodes) (verb.now ∷ []) }
 {
     if verb == b"audit".as_slice() {
-        Ok(Command::Audit)
+        Ok(ConsoleCommand::Audit)
     } else {
         Err(Refusal::BadLine)
     }
@@ -146,20 +146,20 @@ fn of_one(nodes: u8, verb: &[u8]) -> Result<Command, Refusal>
 
 // Those of two.
 #[tactic(auto, unfolding(line_words::specs::Forms::form_says, crate::specs::Commands::commands))]
-fn of_two(nodes: u8, verb: &[u8], i: &[u8]) -> Result<Command, Refusal>
+fn of_two(nodes: u8, verb: &[u8], i: &[u8]) -> Result<ConsoleCommand, Refusal>
     requires { nodes ≤ 16 }
     ensures { result ≡ form_says (commands nodes) (verb.now ∷ i.now ∷ []) }
 {
     if verb == b"deliver".as_slice() && i == b"all".as_slice() {
-        Ok(Command::Event(Event::DeliverAll))
+        Ok(ConsoleCommand::Event(Event::DeliverAll))
     } else if verb == b"flush".as_slice() {
-        Ok(Command::Event(Event::Flush(read_node(nodes, i)?)))
+        Ok(ConsoleCommand::Event(Event::Flush(read_node(nodes, i)?)))
     } else if verb == b"checkpoint".as_slice() {
-        Ok(Command::Event(Event::Checkpoint(read_node(nodes, i)?)))
+        Ok(ConsoleCommand::Event(Event::Checkpoint(read_node(nodes, i)?)))
     } else if verb == b"crash".as_slice() {
-        Ok(Command::Event(Event::Crash(read_node(nodes, i)?)))
+        Ok(ConsoleCommand::Event(Event::Crash(read_node(nodes, i)?)))
     } else if verb == b"show".as_slice() {
-        Ok(Command::Show(read_node(nodes, i)?))
+        Ok(ConsoleCommand::Show(read_node(nodes, i)?))
     } else {
         Err(Refusal::BadLine)
     }
@@ -167,22 +167,22 @@ fn of_two(nodes: u8, verb: &[u8], i: &[u8]) -> Result<Command, Refusal>
 
 // Those of three.
 #[tactic(auto, unfolding(line_words::specs::Forms::form_says, crate::specs::Commands::commands))]
-fn of_three(nodes: u8, verb: &[u8], i: &[u8], x: &[u8]) -> Result<Command, Refusal>
+fn of_three(nodes: u8, verb: &[u8], i: &[u8], x: &[u8]) -> Result<ConsoleCommand, Refusal>
     requires { nodes ≤ 16 }
     ensures { result ≡ form_says (commands nodes) (verb.now ∷ i.now ∷ x.now ∷ []) }
 {
     if verb == b"latest".as_slice() {
         let node = read_node(nodes, i)?;
         let group = read_group(x)?;
-        Ok(Command::Event(Event::Submit(node, Request::Latest(group))))
+        Ok(ConsoleCommand::Event(Event::Submit(node, Request::Latest(group))))
     } else if verb == b"deliver".as_slice() {
         let from = read_node(nodes, i)?;
         let no = read_count(x)?;
-        Ok(Command::Event(Event::Deliver { from, no }))
+        Ok(ConsoleCommand::Event(Event::Deliver { from, no }))
     } else if verb == b"credit".as_slice() {
         let from = read_node(nodes, i)?;
         let upto = read_count(x)?;
-        Ok(Command::Event(Event::Credit { from, upto }))
+        Ok(ConsoleCommand::Event(Event::Credit { from, upto }))
     } else {
         Err(Refusal::BadLine)
     }
@@ -190,7 +190,7 @@ fn of_three(nodes: u8, verb: &[u8], i: &[u8], x: &[u8]) -> Result<Command, Refus
 
 // Those of four.
 #[tactic(auto, unfolding(line_words::specs::Forms::form_says, crate::specs::Commands::commands))]
-fn of_four(nodes: u8, verb: &[u8], i: &[u8], x: &[u8], y: &[u8]) -> Result<Command, Refusal>
+fn of_four(nodes: u8, verb: &[u8], i: &[u8], x: &[u8], y: &[u8]) -> Result<ConsoleCommand, Refusal>
     requires { nodes ≤ 16 }
     ensures { result ≡ form_says (commands nodes) (verb.now ∷ i.now ∷ x.now ∷ y.now ∷ []) }
 {
@@ -198,16 +198,16 @@ fn of_four(nodes: u8, verb: &[u8], i: &[u8], x: &[u8], y: &[u8]) -> Result<Comma
         let node = read_node(nodes, i)?;
         let group = read_group(x)?;
         let floor = read_term(y)?;
-        Ok(Command::Event(Event::Submit(node, Request::Retire(group, floor))))
+        Ok(ConsoleCommand::Event(Event::Submit(node, Request::Retire(group, floor))))
     } else if verb == b"who".as_slice() {
         let node = read_node(nodes, i)?;
         let group = read_group(x)?;
         let term = read_term(y)?;
-        Ok(Command::Event(Event::Submit(node, Request::Who(Key { group, term }))))
+        Ok(ConsoleCommand::Event(Event::Submit(node, Request::Who(Key { group, term }))))
     } else if verb == b"stop".as_slice() && y == b"old".as_slice() {
         let node = read_node(nodes, i)?;
         let call = read_call(x)?;
-        Ok(Command::Event(Event::Stop {
+        Ok(ConsoleCommand::Event(Event::Stop {
             node,
             call,
             tear: Tear::Old,
@@ -215,7 +215,7 @@ fn of_four(nodes: u8, verb: &[u8], i: &[u8], x: &[u8], y: &[u8]) -> Result<Comma
     } else if verb == b"stop".as_slice() && y == b"new".as_slice() {
         let node = read_node(nodes, i)?;
         let call = read_call(x)?;
-        Ok(Command::Event(Event::Stop {
+        Ok(ConsoleCommand::Event(Event::Stop {
             node,
             call,
             tear: Tear::New,
@@ -234,7 +234,7 @@ fn of_five(
     x: &[u8],
     y: &[u8],
     z: &[u8],
-) -> Result<Command, Refusal>
+) -> Result<ConsoleCommand, Refusal>
     requires { nodes ≤ 16 }
     ensures { result ≡ form_says (commands nodes) (verb.now ∷ i.now ∷ x.now ∷ y.now ∷ z.now ∷ []) }
 {
@@ -243,19 +243,19 @@ fn of_five(
         let group = read_group(x)?;
         let term = read_term(y)?;
         let bid = read_bid(z)?;
-        Ok(Command::Event(Event::Submit(node, Request::Stand(Key { group, term }, bid))))
+        Ok(ConsoleCommand::Event(Event::Submit(node, Request::Stand(Key { group, term }, bid))))
     } else if verb == b"stop".as_slice() && y == b"fill".as_slice() {
         let node = read_node(nodes, i)?;
         let call = read_call(x)?;
         let tear = Tear::Fill(read_number(z, 0, 255)? as u8);
-        Ok(Command::Event(Event::Stop { node, call, tear }))
+        Ok(ConsoleCommand::Event(Event::Stop { node, call, tear }))
     } else if verb == b"stop".as_slice()
         && x == b"checkpoint".as_slice()
         && z == b"old".as_slice()
     {
         let node = read_node(nodes, i)?;
         let call = read_checkpoint_call(y)?;
-        Ok(Command::Event(Event::StopCheckpoint {
+        Ok(ConsoleCommand::Event(Event::StopCheckpoint {
             node,
             call,
             tear: Tear::Old,
@@ -266,7 +266,7 @@ fn of_five(
     {
         let node = read_node(nodes, i)?;
         let call = read_checkpoint_call(y)?;
-        Ok(Command::Event(Event::StopCheckpoint {
+        Ok(ConsoleCommand::Event(Event::StopCheckpoint {
             node,
             call,
             tear: Tear::New,
@@ -286,7 +286,7 @@ fn of_six(
     call: &[u8],
     tear: &[u8],
     byte: &[u8],
-) -> Result<Command, Refusal>
+) -> Result<ConsoleCommand, Refusal>
     requires { nodes ≤ 16 }
     ensures { result ≡ form_says (commands nodes) (verb.now ∷ i.now ∷ what.now ∷ call.now ∷ tear.now ∷ byte.now ∷ []) }
 {
@@ -297,10 +297,10 @@ fn of_six(
     let node = read_node(nodes, i)?;
     let call = read_checkpoint_call(call)?;
     let tear = Tear::Fill(read_number(byte, 0, 255)? as u8);
-    Ok(Command::Event(Event::StopCheckpoint { node, call, tear }))
+    Ok(ConsoleCommand::Event(Event::StopCheckpoint { node, call, tear }))
 }
 
-fn command_of(nodes: u8, words: &[&[u8]]) -> Result<Command, Refusal>
+fn command_of(nodes: u8, words: &[&[u8]]) -> Result<ConsoleCommand, Refusal>
     requires { nodes ≤ 16 }
     ensures { result ≡ form_says (commands nodes) (map (λ x. x.now) words.now) }
 {
@@ -333,7 +333,7 @@ pub fn read_command(
     alloc: Global,
     nodes: u8,
     line: &[u8],
-) -> Result<Result<Command, Refusal>, AllocError>
+) -> Result<Result<ConsoleCommand, Refusal>, AllocError>
     requires { nodes ≤ 16 }
     ensures { IfOk result (λ r. r ≡ line_says (commands nodes) line.now) }
 {

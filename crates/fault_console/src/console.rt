@@ -10,7 +10,7 @@ ghost use Rattle.fault_console.specs.Progress.{Does, tickets_of};
 ghost use Rattle.fault_console.specs.Script.{Happens, LinePrints, Obeys, Opens, Shows, ring_line, shown_at, unshown};
 
 use crate::audits::tell_audit;
-use crate::commands::{Command, RingShape, line_is_silent, read_command, read_shape};
+use crate::commands::{ConsoleCommand, RingShape, line_is_silent, read_command, read_shape};
 use crate::print::{count_lines, print_outcome, print_ring, print_shown};
 use line_words::print_refusal;
 use ring_records::{NodeNo, Refusal, Shown};
@@ -79,7 +79,7 @@ fn show(world: &World, node: NodeNo, out: &mut String) -> Result<u64, AllocError
 fn follow(
     alloc: Global,
     world: &mut World,
-    command: Command,
+    command: ConsoleCommand,
     out: &mut String,
 ) -> Result<u64, AllocError>
     requires small { world.old.tickets ≤ 1000000 }
@@ -89,16 +89,16 @@ fn follow(
     ensures few { IfOk result (λ n. n ≤ world.old.tickets + 2) }
 {
     match command {
-        Command::Event(event) => perform(world, event, out),
-        Command::Show(node) => show(world, node, out),
-        Command::Audit => tell_audit(alloc, world, out),
+        ConsoleCommand::Event(event) => perform(world, event, out),
+        ConsoleCommand::Show(node) => show(world, node, out),
+        ConsoleCommand::Audit => tell_audit(alloc, world, out),
     }
 }
 
 fn answer(
     alloc: Global,
     world: &mut World,
-    said: Result<Command, Refusal>,
+    said: Result<ConsoleCommand, Refusal>,
     out: &mut String,
 ) -> Result<u64, AllocError>
     requires small { world.old.tickets ≤ 1000000 }

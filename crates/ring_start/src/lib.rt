@@ -27,4 +27,4 @@ pub use log::Log;
 pub use open_node::OpenNode;
 pub use ready::Ready;
 pub use ring_fault::RingFault;
-pub use unopened::{Place, Told, Unopened, print_fault};
+pub use unopened::{FileFault, Place, Unopened, print_fault};

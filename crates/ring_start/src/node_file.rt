@@ -10,7 +10,7 @@ ghost use Rattle.ring_start.specs.Fits.{kept_by, number_of};
 ghost use Rattle.ring_start.specs.Written.{HoldsAll};
 
 use crate::open_node::OpenNode;
-use crate::unopened::{Place, Told, Unopened};
+use crate::unopened::{FileFault, Place, Unopened};
 use disk_model::{Device, DeviceFault, FileDevice, OpenFault, SystemFault};
 use gated_journal::{AreaStart, device_size, newer_layout};
 use node_store::Node;
@@ -69,8 +69,8 @@ fn unread(refusal: Refusal, cause: Option<SystemFault>, newer: Option<u8>) -> Un
     ensures refusal { result.refusal ≡ refusal }
     ensures memory { refusal ≡ Refusal.OutOfMemory → result.told ≡ None }
     ensures silent { (times : ℕ) → refusal ≡ Refusal.Device times → IfNone cause (result.told ≡ None) }
-    ensures system { (times : ℕ) → refusal ≡ Refusal.Device times → IfSome cause (λ fault. result.told ≡ Some (Told.Fault Place.Journal fault)) }
-    ensures newer { (offset : ℕ) → refusal ≡ Refusal.Damaged offset → IfSome newer (λ layout. result.told ≡ Some (Told.Newer layout)) }
+    ensures system { (times : ℕ) → refusal ≡ Refusal.Device times → IfSome cause (λ fault. result.told ≡ Some (FileFault.Fault Place.Journal fault)) }
+    ensures newer { (offset : ℕ) → refusal ≡ Refusal.Damaged offset → IfSome newer (λ layout. result.told ≡ Some (FileFault.Newer layout)) }
 {
     match refusal {
         Refusal::OutOfMemory => Unopened::new(refusal),
@@ -78,11 +78,11 @@ fn unread(refusal: Refusal, cause: Option<SystemFault>, newer: Option<u8>) -> Un
         _ => match newer {
             Some(layout) => Unopened {
                 refusal,
-                told: Some(Told::Newer(layout)),
+                told: Some(FileFault::Newer(layout)),
             },
             None => Unopened {
                 refusal,
-                told: Some(Told::Found(Place::Journal, ErrorKind::InvalidData)),
+                told: Some(FileFault::Found(Place::Journal, ErrorKind::InvalidData)),
             },
         },
     }

@@ -46,7 +46,7 @@ impl Place {
 
 /// What is told beside a refusal.
 #[derive(Clone, Copy, Debug, PartialEq, Eq)]
-pub enum Told {
+pub enum FileFault {
     /// The system refused a call of this file so.
     Fault(Place, SystemFault),
     /// No call was refused: this is told of what is there, or is not.
@@ -99,7 +99,7 @@ fn print_found<C: Clock, E: Write>(
 #[derive(Clone, Copy, Debug)]
 pub struct Unopened {
     pub refusal: Refusal,
-    pub told: Option<Told>,
+    pub told: Option<FileFault>,
 }
 
 impl Unopened {
@@ -116,13 +116,13 @@ impl Unopened {
     /// Of this refusal of a file, which the system answered so, where it answered anything.
     pub(crate) fn caused(refusal: Refusal, place: Place, cause: Option<SystemFault>) -> Unopened
         ensures refusal { result.refusal ≡ refusal }
-        ensures told { IfSome cause (λ fault. result.told ≡ Some (Told.Fault place fault)) }
+        ensures told { IfSome cause (λ fault. result.told ≡ Some (FileFault.Fault place fault)) }
         ensures nothing { IfNone cause (result.told ≡ None) }
     {
         match cause {
             Some(fault) => Unopened {
                 refusal,
-                told: Some(Told::Fault(place, fault)),
+                told: Some(FileFault::Fault(place, fault)),
             },
             None => Unopened::new(refusal),
         }
@@ -142,17 +142,17 @@ impl Unopened {
     {
         Unopened {
             refusal: Refusal::NotFormatted,
-            told: Some(Told::Found(Place::Journal, ErrorKind::NotFound)),
+            told: Some(FileFault::Found(Place::Journal, ErrorKind::NotFound)),
         }
     }
 
     /// The system refused this file or folder so.
     pub fn at(place: Place, fault: SystemFault) -> Unopened
-        ensures { (result.refusal ≡ Refusal.Device 1) × (result.told ≡ Some (Told.Fault place fault)) }
+        ensures { (result.refusal ≡ Refusal.Device 1) × (result.told ≡ Some (FileFault.Fault place fault)) }
     {
         Unopened {
             refusal: Refusal::Device(1),
-            told: Some(Told::Fault(place, fault)),
+            told: Some(FileFault::Fault(place, fault)),
         }
     }
 
@@ -164,9 +164,9 @@ impl Unopened {
         node: NodeNo,
     ) -> io::Result<()> {
         match self.told {
-            Some(Told::Fault(place, fault)) => print_fault(log, dir, place, node, fault),
-            Some(Told::Found(place, kind)) => print_found(log, dir, place, node, kind),
-            Some(Told::Newer(layout)) => writeln!(
+            Some(FileFault::Fault(place, fault)) => print_fault(log, dir, place, node, fault),
+            Some(FileFault::Found(place, kind)) => print_found(log, dir, place, node, kind),
+            Some(FileFault::Newer(layout)) => writeln!(
                 log.line(Level::Error),
                 "ringd: node {node}: layout {layout} is newer than this ringd"
             ),

@@ -6,7 +6,7 @@ use Rattle.httparse.specs.Spans.{RequestOverflows}
 use Rattle.ring_status.specs.Targets.{target_of}
 use Rattle.ring_status.specs.declared.request.Method.{Method}
 use Rattle.ring_status.specs.declared.request.Method.TheVariants.{Get, Head}
-use Rattle.ring_status.specs.declared.request.Request.{Request}
+use Rattle.ring_status.specs.declared.request.HttpRequest.{HttpRequest}
 use Rattle.ring_status.specs.declared.target.Target.{Target}
 use Rattle.ring_status.specs.declared.status.Status.{Status}
 use Rattle.ring_status.specs.declared.status.Status.TheVariants as status
@@ -17,13 +17,13 @@ method_of method =
     else if bytes_eq method (codes "HEAD") then Ok Head
     else Err status.NotAllowed
 
-abbrev pub with_target : Result Method Status → Result Target Status → Result Request Status
+abbrev pub with_target : Result Method Status → Result Target Status → Result HttpRequest Status
 with_target (Err why) target = Err why
 with_target (Ok method) (Err why) = Err why
 with_target (Ok method) (Ok target) = Ok (record { method = method; target = target })
 
 -- its method, and then its target
-abbrev pub request_of : List ℕ → List ℕ → Result Request Status
+abbrev pub request_of : List ℕ → List ℕ → Result HttpRequest Status
 request_of method target = with_target (method_of method) (target_of target)
 
 -- what is asked is not answered

@@ -34,7 +34,7 @@ pub use json::{condition_text, latest_json, leaders_json, name_of, status_json};
 pub use metric::Metric;
 pub use metrics::metrics_text;
 pub use process::{Process, resident_bytes};
-pub use request::{HEAD_BYTES, Method, Request, read_request};
+pub use request::{HEAD_BYTES, HttpRequest, Method, read_request};
 pub use status::Status;
 pub use target::{Target, read_target};
 pub use told::node_status;

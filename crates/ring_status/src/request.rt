@@ -25,7 +25,7 @@ pub enum Method {
 
 /// What is asked, and how.
 #[derive(Clone, Copy, Debug, PartialEq, Eq)]
-pub struct Request {
+pub struct HttpRequest {
     pub method: Method,
     pub target: Target,
 }
@@ -43,18 +43,18 @@ fn method_of(method: &[u8]) -> Result<Method, Status>
 }
 
 // What a method and a target ask.
-fn request_of(method: &[u8], target: &[u8]) -> Result<Request, Status>
+fn request_of(method: &[u8], target: &[u8]) -> Result<HttpRequest, Status>
     ensures { result ≡ request_of method.now target.now }
 {
     let method = method_of(method)?;
     let target = read_target(target)?;
-    Ok(Request { method, target })
+    Ok(HttpRequest { method, target })
 }
 
 /// What the head asks that the bytes begin with, or `None` where more bytes may make it whole. Refused as 431 where it
 /// has more than 64 fields, as 400 where no bytes behind these make it a head, as 405 where its method is neither GET
 /// nor HEAD, and else as its target is.
-pub fn read_request(bytes: &[u8]) -> Result<Option<Request>, Status>
+pub fn read_request(bytes: &[u8]) -> Result<Option<HttpRequest>, Status>
     ensures asked { IfOk result (λ r. IfSome r (λ asked. (head : RequestHead) × (rest : List ℕ)
         × ReadsRequest bytes.now head rest × (request_of head.method head.target ≡ Ok asked))) }
     ensures more { IfOk result (λ r. r ≡ None → HasNoRequest bytes.now) }

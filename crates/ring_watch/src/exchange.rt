@@ -5,7 +5,7 @@ use crate::visitor::{Asked, Caller};
 use crate::watchers::Watcher;
 use client_stream::{Deadline, part, send_all};
 use httpdate::HttpDate;
-use ring_status::{Content, Method, Request, Status, Target, answer_text};
+use ring_status::{Content, HttpRequest, Method, Status, Target, answer_text};
 use std::alloc::{AllocError, Global};
 use std::sync::Wait;
 use std::time::Clock;
@@ -36,7 +36,7 @@ fn answer<R: Wait + Clock>(
     asked: Asked,
     deadline: Deadline,
 ) -> Result<String, AllocError> {
-    let Request { method, target } = match asked {
+    let HttpRequest { method, target } = match asked {
         Ok(request) => request,
         Err((method, status)) => return refusal(rt, alloc, method, status),
     };
@@ -98,7 +98,7 @@ fn is_nothing(body: &Result<Body, Status>) -> bool {
 }
 
 /// What is asked, and for how many seconds it is waited for, where it is.
-fn waits(asked: &Asked) -> Option<(Request, u64)> {
+fn waits(asked: &Asked) -> Option<(HttpRequest, u64)> {
     match asked {
         Ok(request) => match request.target {
             Target::NextOf(_, _, _, seconds) if seconds > 0 => Some((*request, seconds)),

@@ -1,6 +1,6 @@
 //! A client of the status port that has not asked yet.
 use client_stream::Deadline;
-use ring_status::{HEAD_BYTES, Method, Request, Status, read_request};
+use ring_status::{HEAD_BYTES, HttpRequest, Method, Status, read_request};
 use std::alloc::Global;
 use std::io::{ErrorKind, Read};
 use std::net::TcpStream;
@@ -15,7 +15,7 @@ const WHOLE_HEAD: u64 = 2;
 const ANSWER: u64 = 5;
 
 /// What a client asks, or how it asks and why that is refused.
-pub(crate) type Asked = Result<Request, (Method, Status)>;
+pub(crate) type Asked = Result<HttpRequest, (Method, Status)>;
 
 /// A client that has asked.
 #[derive(Drop)]

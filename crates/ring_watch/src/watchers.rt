@@ -4,7 +4,7 @@ use crate::status_port::StatusPort;
 use client_stream::{Deadline, send_all};
 use libc::net::{POLLIN, poll};
 use libc::types::pollfd;
-use ring_status::Request;
+use ring_status::HttpRequest;
 use std::alloc::Global;
 use std::net::TcpStream;
 use std::os::fd::AsRawFd;
@@ -25,7 +25,7 @@ const ANSWER: u64 = 5;
 #[derive(Drop)]
 pub(crate) struct Watcher {
     stream: TcpStream,
-    request: Request,
+    request: HttpRequest,
     until: Instant,
 }
 
@@ -34,7 +34,7 @@ impl Watcher {
     pub(crate) fn new<R: Clock>(
         rt: &R,
         stream: TcpStream,
-        request: Request,
+        request: HttpRequest,
         seconds: u64,
     ) -> Option<Watcher> {
         let until = Instant::now(rt)
@@ -48,7 +48,7 @@ impl Watcher {
     }
 
     /// What it asked.
-    pub(crate) fn request(&self) -> Request {
+    pub(crate) fn request(&self) -> HttpRequest {
         self.request
     }
 
