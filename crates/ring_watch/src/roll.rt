@@ -20,7 +20,8 @@ pub(crate) struct Presence {
 }
 
 /// For what the session at each door of a node stood, 1,024 terms at most, and of what terms who stood for them resigned, as
-/// many at most.
+/// many at most. What goes over both holds the lock of the second from its beginning on: so where one stands and one resigns for a
+/// key at once, the later one counts.
 #[derive(Drop)]
 pub(crate) struct Roll {
     alloc: Global,
@@ -110,10 +111,11 @@ impl Roll {
 
     /// The session at this door, counted from 0, stood for the key. Where memory is wanting it is not known.
     pub(crate) fn enrol<R: Wait>(&self, rt: &R, door: u32, key: Key) {
+        let mut resigned = self.resigned.lock(rt);
         if let Some(stood) = self.doors.get(door as usize) {
             let _ = enter(self.alloc, &mut stood.lock(rt), key);
         }
-        self.resigned.lock(rt).retain(|other| *other != key);
+        resigned.retain(|other| *other != key);
     }
 
     /// The session at this door has ended.
@@ -125,14 +127,13 @@ impl Roll {
 
     /// The node gave up the terms of the group below this floor.
     pub(crate) fn retire<R: Wait>(&self, rt: &R, group: &GroupName, floor: Term) {
+        let mut resigned = self.resigned.lock(rt);
         for stood in &self.doors {
             stood
                 .lock(rt)
                 .retain(|stand| !is_below(&stand.key, group, floor));
         }
-        self.resigned
-            .lock(rt)
-            .retain(|key| !is_below(key, group, floor));
+        resigned.retain(|key| !is_below(key, group, floor));
     }
 
     /// The client of the session at this door tells a text, of the greatest term of the group that it stood for. Whether there is
@@ -169,10 +170,11 @@ impl Roll {
     /// The client of the session at this door resigns for the key: nobody is present for it from then on. Whether it stood for
     /// it. Where memory is wanting nothing has changed.
     pub(crate) fn resign<R: Wait>(&self, rt: &R, door: u32, key: Key) -> Result<bool, AllocError> {
+        let mut resigned = self.resigned.lock(rt);
         if !self.stands_at(rt, door, &key) {
             return Ok(false);
         }
-        mark(&mut self.resigned.lock(rt), key)?;
+        mark(&mut resigned, key)?;
         for stood in &self.doors {
             stood.lock(rt).retain(|stand| stand.key != key);
         }
@@ -195,8 +197,9 @@ impl Roll {
 
     /// What is known of who stood for the key.
     pub(crate) fn presence<R: Wait>(&self, rt: &R, key: &Key) -> Result<Presence, AllocError> {
-        let resigned = self.resigned.lock(rt).contains(key);
+        let among = self.resigned.lock(rt);
         let text = self.text_of(rt, key)?;
+        let resigned = among.contains(key);
         Ok(Presence {
             present: text.is_some() && !resigned,
             resigned,
