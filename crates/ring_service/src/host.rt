@@ -1,5 +1,5 @@
 //! Where on a host ports are listened at.
-ghost use Rattle.std.specs.Prelude.{◌≡◌, IfSome};
+ghost use Rattle.std.specs.Prelude.{◌≡◌, IfNone, IfSome};
 ghost use Rattle.std.specs.Net.Grammar.{IsIpText, IsIpv6Text};
 ghost use Rattle.ring_service.specs.Hosts.{IsHost, inner_of};
 
@@ -67,7 +67,8 @@ fn bracketed(text: &[u8]) -> Option<Ipv6Addr>
 impl<'a> Host<'a> {
     /// What the text spells: an IPv4 or IPv6 address, this also in square brackets, or else a name. `None` where it is neither.
     pub fn read(text: &'a str) -> Option<Host<'a>>
-        ensures { IfSome result (IsHost text.now) }
+        ensures host { IfSome result (IsHost text.now) }
+        ensures none { IfNone result ((a : IpAddr) → IsIpText text.now a → ⊥) }
     {
         match IpAddr::parse_ascii(text.as_bytes()) {
             Ok(address) => Some(Host::Address(address)),
