@@ -35,7 +35,7 @@
 .PHONY: ringd install serve fencing clients picture pictures kills years earlier load short threads scrapes writeback syncs fuzz faults growths hangs flips
 .PHONY: starts docs unit image copies alerts deb runbook full uses hosts turns lost_host
 
-KINDS = console node session settings
+KINDS = console node ringd session settings
 ROWS = $(KINDS:%=crates/rows/data/%.rows)
 
 run:
@@ -50,7 +50,7 @@ test:
 rows:
 	@mkdir -p bin
 	@for kind in $(KINDS); do \
-	  (cd crates/rows && rt try -- $$kind "$$PWD/data/$$kind.rows") > bin/rows.txt || exit 1; \
+	  (cd crates/rows && rt try --seconds 300 -- $$kind "$$PWD/data/$$kind.rows") > bin/rows.txt || exit 1; \
 	  cp bin/rows.txt crates/rows/data/$$kind.rows; \
 	done
 	@cat $(ROWS) > crates/rows/stdout
@@ -197,7 +197,7 @@ faults: bin/ringd
 	@trials/faults.py
 
 growths: bin/ringctl bin/ringd
-	@for crate in board_tests journal_tests node_tests records_tests ring_tests service_tests sessions_tests store_tests; do (cd crates/$$crate && rt test > /dev/null) || exit 1; done
+	@for crate in journal_tests node_tests ring_tests service_tests; do (cd crates/$$crate && rt test > /dev/null) || exit 1; done
 	@trials/growths.py
 
 flips: bin/ringd

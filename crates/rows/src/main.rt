@@ -1,6 +1,6 @@
-//! `rows KIND FILE ..` plays the rows of each file as the kind before it says, `console`, `node`, `session` or `settings`, and
-//! prints them with what they print now: rows that hold are printed as they were read. README.md tells their form. Where a
-//! file is not played, why stands on standard error, and the status is 1, or 2 where the words are wrong.
+//! `rows KIND FILE ..` plays the rows of each file as the kind before it says, `console`, `node`, `ringd`, `session` or
+//! `settings`, and prints them with what they print now: rows that hold are printed as they were read. README.md tells their
+//! form. Where a file is not played, why stands on standard error, and the status is 1, or 2 where the words are wrong.
 #![tactic(auto)]
 
 mod console;
@@ -9,12 +9,27 @@ mod lines;
 mod node;
 mod play;
 mod program;
+mod ringd;
 mod session;
 mod settings;
 
-use crate::program::run;
+use crate::kind::Kind;
+use crate::program::{played_in_memory, print, read_all, refuse};
 use std::process::ExitCode;
 
 fn main(rt: HostRuntime) -> ExitCode {
-    run(&rt)
+    let all = match read_all(&rt) {
+        Ok(all) => all,
+        Err(fault) => return refuse(&rt, fault),
+    };
+    for rows in &all {
+        let played = match rows.kind {
+            Kind::InMemory(kind) => played_in_memory(rt.alloc(), kind, &rows.text),
+            Kind::Ringd => ringd::played(&rt, &rows.text),
+        };
+        if let Err(fault) = print(&rt, played) {
+            return refuse(&rt, fault);
+        }
+    }
+    ExitCode::SUCCESS
 }

@@ -1,8 +1,9 @@
 // Files of rows, one by one.
 ghost use Rattle.std.specs.Prelude.{◌≤◌, length, IfOk};
 
-use crate::kind::Kind;
+use crate::kind::{InMemory, Kind};
 use line_words::write_whole;
+use std::alloc::{AllocError, Global};
 use std::process::ExitCode;
 use std::{env, fs, io};
 use thiserror::Error;
@@ -12,9 +13,9 @@ const ROWS_BYTES: usize = 1_000_000;
 
 /// Why rows are not printed.
 #[derive(Clone, Copy, Debug, Error)]
-enum RowsFault {
+pub enum RowsFault {
     /// A word is no kind, or no file stands behind one.
-    #[error("usage: rows KIND FILE .., a KIND being console, node, session or settings")]
+    #[error("usage: rows KIND FILE .., a KIND being console, node, ringd, session or settings")]
     Words,
     /// The file cannot be read.
     #[error("rows cannot be read")]
@@ -30,6 +31,13 @@ enum RowsFault {
     Memory,
 }
 
+/// The rows of a file, and what they ask.
+#[derive(Drop)]
+pub struct Rows {
+    pub kind: Kind,
+    pub text: Vec<u8>,
+}
+
 fn read_rows(rt: &HostRuntime, path: &str) -> Result<Vec<u8>, RowsFault>
     ensures { IfOk result (λ rows. length rows.items ≤ 1000000) }
 {
@@ -40,46 +48,53 @@ fn read_rows(rt: &HostRuntime, path: &str) -> Result<Vec<u8>, RowsFault>
     }
 }
 
-/// Plays the rows of this file, and prints them.
-fn play(rt: &HostRuntime, kind: Kind, path: &str) -> Result<(), RowsFault> {
-    let rows = read_rows(rt, path)?;
-    match kind.played(rt.alloc(), &rows) {
+/// Reads a file behind its kind.
+fn read_named(rt: &HostRuntime, kind: &str, path: Option<String>) -> Result<Rows, RowsFault> {
+    match (Kind::named(kind), path) {
+        (Some(kind), Some(path)) => {
+            let text = read_rows(rt, path.as_str())?;
+            Ok(Rows { kind, text })
+        }
+        _ => Err(RowsFault::Words),
+    }
+}
+
+/// Reads what the words say.
+pub fn read_all(rt: &HostRuntime) -> Result<Vec<Rows>, RowsFault> {
+    let mut words = env::args(rt).map_err(|_| RowsFault::Words)?;
+    let _program = words.next();
+    let mut all = Vec::new(rt.alloc());
+    for _ in 0..words.len() {
+        let Some(kind) = words.next() else {
+            return Ok(all);
+        };
+        let rows = read_named(rt, kind.as_str(), words.next())?;
+        all.push(rows).map_err(|_| RowsFault::Memory)?;
+    }
+    Ok(all)
+}
+
+/// The rows of what is in memory, with what their lines print now.
+pub fn played_in_memory(alloc: Global, kind: InMemory, rows: &[u8]) -> Result<Vec<u8>, AllocError> {
+    if rows.len() > ROWS_BYTES {
+        return Ok(Vec::new(alloc));
+    }
+    kind.played(alloc, rows)
+}
+
+/// Prints rows, as they were played.
+pub fn print(rt: &HostRuntime, played: Result<Vec<u8>, AllocError>) -> Result<(), RowsFault> {
+    match played {
         Ok(out) => write_whole(&mut io::writer(rt), &out).map_err(|_| RowsFault::Write),
         Err(_) => Err(RowsFault::Memory),
     }
 }
 
-/// Plays a file behind its kind.
-fn play_named(rt: &HostRuntime, kind: &str, path: Option<String>) -> Result<(), RowsFault> {
-    match (Kind::named(kind), path) {
-        (Some(kind), Some(path)) => play(rt, kind, path.as_str()),
-        _ => Err(RowsFault::Words),
-    }
-}
-
-/// Plays what the words say.
-fn play_all(rt: &HostRuntime) -> Result<(), RowsFault> {
-    let mut words = env::args(rt).map_err(|_| RowsFault::Words)?;
-    let _program = words.next();
-    for _ in 0..words.len() {
-        match words.next() {
-            Some(kind) => play_named(rt, kind.as_str(), words.next())?,
-            None => return Ok(()),
-        }
-    }
-    Ok(())
-}
-
-/// Runs the program.
-pub fn run(rt: &HostRuntime) -> ExitCode {
-    match play_all(rt) {
-        Ok(()) => ExitCode::SUCCESS,
-        Err(fault) => {
-            let _ = eprintln!(rt; "rows: {fault}");
-            match fault {
-                RowsFault::Words => ExitCode::from(2),
-                _ => ExitCode::FAILURE,
-            }
-        }
+/// Says why rows are not printed. The status of the program.
+pub fn refuse(rt: &HostRuntime, fault: RowsFault) -> ExitCode {
+    let _ = eprintln!(rt; "rows: {fault}");
+    match fault {
+        RowsFault::Words => ExitCode::from(2),
+        _ => ExitCode::FAILURE,
     }
 }

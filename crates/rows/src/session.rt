@@ -6,4 +6,5 @@ mod marks;
 mod player;
 mod stage;
 
+pub use bytes::add_bytes;
 pub use player::Row;
