@@ -61,20 +61,41 @@ fn publish_until<J: Naming, R: Wait>(
     Ok(())
 }
 
+/// How often there was a leader by the read of this number: once, or not.
+fn read_next<J: Naming>(
+    reader: &mut BoardReader<J>,
+    groups: &[GroupName],
+    read: u32,
+) -> Result<u64, Refusal> {
+    let Some(group) = groups.get((read % GROUPS) as usize) else {
+        return Ok(0);
+    };
+    Ok(u64::from(reader.latest(group)?.is_some()))
+}
+
 /// Reads so often, of one group after the other. Tells how often there was a leader.
+fn read_often<J: Naming>(
+    reader: &mut BoardReader<J>,
+    groups: &[GroupName],
+    reads: u32,
+) -> Result<u64, Refusal> {
+    let mut found = 0u64;
+    for read in 0..reads {
+        found = found.saturating_add(read_next(reader, groups, read)?);
+    }
+    Ok(found)
+}
+
+/// The same with a reader that is let go of then.
 fn read_all<J: Naming>(
     reader: BoardReader<J>,
     groups: &[GroupName],
     reads: u32,
 ) -> Result<u64, Refusal> {
     let mut reader = reader;
-    let mut found = 0u64;
-    for group in groups.iter().cycle().take(reads as usize) {
-        if reader.latest(group)?.is_some() {
-            found = found.saturating_add(1);
-        }
-    }
-    Ok(found)
+    let found = read_often(&mut reader, groups, reads);
+    drop(reader);
+    found
 }
 
 /// What all of them found.

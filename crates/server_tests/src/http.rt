@@ -8,8 +8,6 @@ use std::time::{Clock, Duration};
 /// What is asked, and what is answered.
 #[derive(Clone, Copy)]
 pub enum Question {
-    /// These bytes are answered with those.
-    Whole(&'static [u8], &'static [u8]),
     /// These bytes are answered with a status that begins so, and with a text that ends so.
     Status(&'static [u8], &'static [u8], &'static [u8]),
     /// This target is answered with 200 and a text in which that stands.
@@ -150,7 +148,6 @@ pub fn is_answered<R: Net<Stream = TcpStream> + Clock + AllocGlobal>(
     question: Question,
 ) -> bool {
     match question {
-        Question::Whole(head, answer) => is_whole(rt, port, head, answer),
         Question::Status(head, status, end) => has_status(rt, port, head, status, end),
         Question::Target(target, text) => is_told(rt, port, target, text),
         Question::AtLast(target, text) => is_answered_at_last(rt, port, target, text),

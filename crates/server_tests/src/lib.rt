@@ -2,7 +2,7 @@
 #![tactic(auto)]
 
 #[cfg(test)]
-mod backups;
+mod answers;
 #[cfg(test)]
 mod checkpoints;
 #[cfg(test)]
@@ -12,13 +12,7 @@ mod devices;
 #[cfg(test)]
 mod doors;
 #[cfg(test)]
-mod earlier;
-#[cfg(test)]
-mod elections;
-#[cfg(test)]
 mod fake;
-#[cfg(test)]
-mod folders;
 #[cfg(test)]
 mod full;
 #[cfg(test)]
@@ -30,8 +24,6 @@ mod identities;
 #[cfg(test)]
 mod logs;
 #[cfg(test)]
-mod looks;
-#[cfg(test)]
 mod news;
 #[cfg(test)]
 mod numbers;
@@ -41,8 +33,6 @@ mod plans;
 mod programs;
 #[cfg(test)]
 mod refusals;
-#[cfg(test)]
-mod requests;
 #[cfg(test)]
 mod sessions_ends;
 #[cfg(test)]

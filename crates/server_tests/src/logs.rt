@@ -1,58 +1,12 @@
 // What stands before the lines on standard error.
-use crate::programs::{Ring, Scenario, run, runs};
-use crate::steps::Change::{Anew, Clears, Writes};
-use crate::steps::Step::{Changes, Ends};
-use crate::steps::{Step, anew, plays};
-use crate::visits::Visit;
+use crate::programs::run;
+use crate::steps::anew;
 use log_lines::{Level, LogForm, Prefix};
 use ring_server::start;
 use std::test::*;
 use std::{fs, str};
 
-const LOGGED: &[u8] = b"nodes = 2\ndir = \"logged\"\nport = 7297\ncapacity = 4096\n";
-
-const LARGER: &[u8] = b"nodes = 2\ndir = \"logged\"\nport = 7297\ncapacity = 8192\n";
-
-const MAKE: &[&str] = &["ringd", "--make"];
-
-const JOURNAL: &[&str] = &["ringd", "--make", "--log", "journal"];
-
-const PLAIN: &[&str] = &["ringd", "--make", "--log", "plain"];
-
 const TIME: &[&str] = &["ringd", "--make", "--log", "time"];
-
-const KEEPS: &[u8] =
-    b"ringd: node 1 keeps its capacity of 4096\nringd: node 2 keeps its capacity of 4096\n";
-
-const LOGS: &[u8] = b"<4>ringd: node 1 keeps its capacity of 4096\n\
-    <4>ringd: node 2 keeps its capacity of 4096\n\
-    <6>ringd: version 0.1.0, layout 3\n\
-    <6>ringd: the ring is 00112233445566778899aabbccddeeff\n";
-
-const REFUSED: &[u8] =
-    b"<3>ringd: node 1: unformatted\n<3>ringd: logged/node-1.crj: invalid data\n";
-
-const WRONG: &[u8] =
-    b"<3>ringd: setting nodes is wrong\n<3>ringd: nodes is a number from 2 to 16\n";
-
-static LEVELS: [Step; 7] = [
-    Changes(&[
-        Anew("logged"),
-        Writes("logged/ring.id", b"00112233445566778899aabbccddeeff\n"),
-    ]),
-    Ends(MAKE, LOGGED, 0, b""),
-    Ends(PLAIN, LARGER, 0, KEEPS),
-    Ends(JOURNAL, LARGER, 0, LOGS),
-    Changes(&[Writes("logged/node-1.crj", b"")]),
-    Ends(JOURNAL, LOGGED, 1, REFUSED),
-    Ends(JOURNAL, b"nodes = 1\n", 2, WRONG),
-];
-
-#[test]
-fn lines_with_their_levels(rt: HostRuntime) {
-    plays(&rt, &LEVELS);
-    plays(&rt, &[Changes(&[Clears("logged")])]);
-}
 
 #[test]
 fn wrong_words_have_a_level(rt: HostRuntime) {
@@ -72,48 +26,18 @@ fn wrong_words_have_a_level(rt: HostRuntime) {
     assert!(&rt; err.starts_with(b"<3>error: "));
 }
 
-const ENDING: Scenario = Scenario {
-    ring: Ring::Program(
-        &["ringd", "--serve", "1", "--log", "journal"],
-        b"nodes = 2\ndir = \"ending\"\nport = 7421\n",
-    ),
-    visits: [
-        &[
-            Visit::Asks(7421, b"who red 1\n", b"none"),
-            Visit::Asks(7422, b"who red 1\n", b"none"),
-        ],
-        &[],
-        &[],
-    ],
-    status: 0,
-    out: b"",
-    err: Some(
-        b"<6>ringd: version 0.1.0, layout 3\n\
-        <6>ringd: the ring is 00112233445566778899aabbccddeeff\n\
-        <6>ringd: ends, as all doors are done\n",
-    ),
-};
-
-#[test]
-fn the_end_is_told(rt: HostRuntime) -> Result<(), Fail> {
-    anew(&rt, "ending");
-    let identity = b"00112233445566778899aabbccddeeff\n";
-    fs::write(&rt, "ending/ring.id", identity.as_slice())?;
-    runs(&rt, &ENDING);
-    fs::remove_dir_all(&rt, "ending")?;
-    Ok(())
+/// Whether it is of this form: `2026-11-29T09:41:39Z`.
+fn is_time(time: &[u8]) -> bool {
+    let digits = time.iter().filter(|byte| byte.is_ascii_digit()).count();
+    (time.len(), digits) == (20, 14) && time.starts_with(b"20") && time.ends_with(b"Z")
 }
 
-/// Whether a line is of this form, with this text behind the time: `2026-11-29T09:41:39Z`.
+/// Whether a line has a time, and this text behind it.
 fn is_timed(line: &str, text: &str) -> bool {
-    let bytes = line.as_bytes();
-    let digits = bytes.iter().take(20).filter(|byte| byte.is_ascii_digit());
-    digits.count() == 14
-        && bytes.get(10) == Some(&b'T')
-        && bytes.get(19) == Some(&b'Z')
-        && line.starts_with("20")
-        && line.ends_with(text)
-        && bytes.len() == text.len().saturating_add(20)
+    match line.strip_suffix(text) {
+        Some(time) => is_time(time.as_bytes()),
+        None => false,
+    }
 }
 
 #[test]

@@ -1,12 +1,11 @@
 // Numbers that an operator is told, by what clients did.
 use crate::checkpoints::Stands;
 use crate::clients::connect;
-use crate::http::Question::{AtLast as Told, Status, Target};
+use crate::http::Question::Status;
 use crate::http::{Question, answer_to, is_answered};
 use crate::programs::{Ring, Scenario};
 use crate::steps::runs_anew;
-use crate::visits::Say::{AtLast, Line, Meanwhile};
-use crate::visits::{Say, Visit};
+use crate::visits::Visit;
 use std::alloc::AllocGlobal;
 use std::io::Write;
 use std::net::{Net, TcpStream};
@@ -83,61 +82,6 @@ const COUNTED: Scenario = Scenario {
 #[test]
 fn syncs_behind_a_checkpoint(rt: HostRuntime) {
     runs_anew(&rt, "counted", &COUNTED);
-}
-
-/// Once node 2 knows the leader of the last group, all that node 1 made durable before is counted.
-const RETIRES: &[Say] = &[
-    Line(b"stand red 5 10\n", b"stood"),
-    AtLast(b"latest red\n", b"term 5 leader 1 10"),
-    Line(b"stand red 6 10\n", b"stood"),
-    AtLast(b"latest red\n", b"term 6 leader 1 10"),
-    Line(b"retire red 6\n", b"retired"),
-    Line(b"stand blue 1 10\n", b"stood"),
-    Meanwhile(
-        7345,
-        Told(
-            "/leaders/blue?node=2",
-            b"{\"by\":2,\"leader\":{\"bid\":10,\"group\":\"blue\",\"node\":1,\"term\":1},\"present\":true,\"resigned\":false,\"text\":\"\"}",
-        ),
-    ),
-    Meanwhile(
-        7345,
-        Target(
-            "/metrics",
-            b"\ncinoweta_elections_total{node=\"1\"} 3\ncinoweta_elections_total{node=\"2\"} 3\n",
-        ),
-    ),
-    Meanwhile(
-        7345,
-        Target(
-            "/metrics",
-            b"\ncinoweta_floors{node=\"1\"} 1\ncinoweta_floors{node=\"2\"} 0\n",
-        ),
-    ),
-    Line(b"bye\n", b"bye"),
-];
-
-const RETIRED: Scenario = Scenario {
-    ring: Ring::Program(
-        &["ringd", "--serve", "1", "--status", "7345"],
-        b"nodes = 2\ndir = \"retired\"\nport = 7346\n",
-    ),
-    visits: [
-        &[
-            Visit::Says(7346, RETIRES),
-            Visit::Asks(7347, b"who blue 4\n", b"none"),
-        ],
-        &[],
-        &[],
-    ],
-    status: 0,
-    out: b"",
-    err: Some(b""),
-};
-
-#[test]
-fn a_retire_is_no_election(rt: HostRuntime) {
-    runs_anew(&rt, "retired", &RETIRED);
 }
 
 /// How many clients may wait for a leader.

@@ -4,7 +4,7 @@ use crate::steps::anew;
 use disk_model::{SystemCall, SystemFault};
 use log_lines::LogForm;
 use ring_service::VERSION;
-use ring_start::{Log, Place, RingFault, Target, Told, Unopened, make_ring};
+use ring_start::{FileFault, Log, Place, RingFault, Target, Unopened, make_ring};
 use std::alloc::AllocGlobal;
 use std::cell::Cell;
 use std::fs;
@@ -109,7 +109,7 @@ struct Refused {
     folder: &'static str,
     log: &'static str,
     trick: Trick,
-    told: Told,
+    told: FileFault,
     calls: &'static [u8],
 }
 
@@ -156,7 +156,7 @@ static UNNAMED: Refused = Refused {
         turn: 1,
         lack: Lack::Sync,
     },
-    told: Told::Fault(Place::Folder, UNSYNCED),
+    told: FileFault::Fault(Place::Folder, UNSYNCED),
     calls: UNNAMED_CALLS,
 };
 
@@ -193,7 +193,7 @@ static UNSIGNED: Refused = Refused {
         turn: 1,
         lack: Lack::Store,
     },
-    told: Told::Fault(Place::Identity, UNSYNCED),
+    told: FileFault::Fault(Place::Identity, UNSYNCED),
     calls: UNSIGNED_CALLS,
 };
 
@@ -217,7 +217,7 @@ static UNSTABLE: Refused = Refused {
         turn: 1,
         lack: Lack::Sync,
     },
-    told: Told::Fault(Place::New, UNSYNCED),
+    told: FileFault::Fault(Place::New, UNSYNCED),
     calls: UNSTABLE_CALLS,
 };
 
@@ -242,7 +242,7 @@ static UNLISTED: Refused = Refused {
         turn: 2,
         lack: Lack::Sync,
     },
-    told: Told::Fault(Place::New, UNSYNCED),
+    told: FileFault::Fault(Place::New, UNSYNCED),
     calls: UNLISTED_CALLS,
 };
 
@@ -267,7 +267,7 @@ static UNWRITTEN: Refused = Refused {
         turn: 1,
         lack: Lack::Write,
     },
-    told: Told::Fault(Place::New, UNWRITABLE),
+    told: FileFault::Fault(Place::New, UNWRITABLE),
     calls: UNWRITTEN_CALLS,
 };
 
@@ -290,7 +290,7 @@ static KEPT: Refused = Refused {
         turn: 1,
         lack: Lack::Write,
     },
-    told: Told::Fault(Place::Journal, UNWRITABLE),
+    told: FileFault::Fault(Place::Journal, UNWRITABLE),
     calls: KEPT_CALLS,
 };
 

@@ -119,6 +119,7 @@ const UNASKED: Scenario = Scenario {
     ),
     visits: [
         &[
+            Visit::MeasuresHeads(7240),
             Visit::IsBesideSilent(7240),
             Visit::IsLeft(7240, b"", 1),
             Visit::IsLeft(7240, HALF_A_HEAD, 2),

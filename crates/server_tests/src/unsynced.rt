@@ -1,6 +1,6 @@
 // A folder whose sync the system refuses.
 use disk_model::{SystemCall, SystemFault};
-use ring_start::{Folder, Place, Told};
+use ring_start::{FileFault, Folder, Place};
 use std::fs;
 use std::io::ErrorKind;
 use std::os::unix::fs::symlink;
@@ -28,7 +28,7 @@ fn a_sync_of_the_folder_that_fails_is_told(rt: HostRuntime) {
         kind: ErrorKind::InvalidInput,
         number: Some(22),
     };
-    assert!(rt; told == Some(Told::Fault(Place::Folder, invalid)));
+    assert!(rt; told == Some(FileFault::Fault(Place::Folder, invalid)));
     // No name is known to be on the disk, so nothing says that all are.
     fs::remove_file(&rt, "unsynced/ring.id").expect(&rt, "an identity");
     fs::remove_dir(&rt, UNSYNCED).expect(&rt, "an empty folder");

@@ -25,8 +25,6 @@ pub enum Say {
     Line(&'static [u8], &'static [u8]),
     /// The line is answered so, once it is not answered `none`.
     AtLast(&'static [u8], &'static [u8]),
-    /// Meanwhile an operator asks this at this port.
-    Meanwhile(u16, Question),
     /// Nothing, and the session ends.
     Nothing,
 }
@@ -91,7 +89,6 @@ fn is_said<R: Net<Stream = TcpStream> + Clock + AllocGlobal>(
     match say {
         Say::Line(line, text) => answers(stream, line, text),
         Say::AtLast(line, text) => answers_at_last(rt, stream, line, text),
-        Say::Meanwhile(port, question) => is_answered(rt, port, question),
         Say::Nothing => is_ended(stream),
     }
 }

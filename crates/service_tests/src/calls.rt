@@ -5,7 +5,7 @@ use commit_hub::{Hub, NodeLedger, Share};
 use decision_board::Naming;
 use disk_model::Device;
 use group_commit::{Stub, Ticket};
-use ring_records::Refusal;
+use ring_records::{Refusal, Reply};
 use ring_service::{Flusher, Gate};
 use std::process::Abort;
 use std::sync::Wait;
@@ -83,16 +83,23 @@ pub fn submits<A: NodeLedger, R: Wait + Abort>(
     share: &mut Share<A>,
     ask: Ask,
 ) -> Ticket {
-    let question = request(rt, ask);
-    let first = hub.submit(rt, share, question);
-    match first {
+    match hub.submit(rt, share, request(rt, ask)) {
         Ok(ticket) => ticket,
-        Err(refusal) => {
-            assert!(rt; refusal == Refusal::OutOfMemory);
-            let again = request(rt, ask);
-            hub.submit(rt, share, again).expect(rt, "ample memory")
-        }
+        Err(refusal) => submits_again(rt, hub, share, ask, refusal),
     }
+}
+
+/// A ticket for the request, which was refused a growth.
+fn submits_again<A: NodeLedger, R: Wait + Abort>(
+    rt: &R,
+    hub: &Hub<A>,
+    share: &mut Share<A>,
+    ask: Ask,
+    refusal: Refusal,
+) -> Ticket {
+    assert!(rt; refusal == Refusal::OutOfMemory);
+    hub.submit(rt, share, request(rt, ask))
+        .expect(rt, "ample memory")
 }
 
 /// The stub of the ticket's reply. A ticket that is refused is forfeited.
@@ -102,15 +109,23 @@ pub fn released<A: NodeLedger, R: Wait + Abort>(
     ticket: Ticket,
 ) -> Result<Stub, Refusal> {
     match hub.redeem_wait(rt, ticket) {
-        Ok((reply, stub, _begun)) => {
-            assert!(rt; stub.reply() == reply);
-            Ok(stub)
-        }
+        Ok((reply, stub, _begun)) => Ok(answered(rt, reply, stub)),
         Err((ticket, refusal)) => {
-            assert!(rt; hub.forfeit(rt, ticket).is_ok());
+            forfeits(rt, hub, ticket);
             Err(refusal)
         }
     }
+}
+
+/// The stub is of this reply.
+fn answered(rt: &impl Abort, reply: Reply, stub: Stub) -> Stub {
+    assert!(rt; stub.reply() == reply);
+    stub
+}
+
+/// The ticket is forfeited.
+fn forfeits<A: NodeLedger, R: Wait + Abort>(rt: &R, hub: &Hub<A>, ticket: Ticket) {
+    assert!(rt; hub.forfeit(rt, ticket).is_ok());
 }
 
 /// How many inputs a round makes durable, and how many leaders and floors they make known. Where a growth is refused it is tried
@@ -121,10 +136,15 @@ pub fn rounds<V: Device, J: Naming, A: NodeLedger, R: Wait + Abort, G: Gate>(
     flusher: &mut Flusher<V, J, A>,
     gate: &mut G,
 ) -> (u64, usize) {
-    let landed = match round(rt, hub, flusher, gate) {
-        Err(Refusal::OutOfMemory) => round(rt, hub, flusher, gate),
-        landed => landed,
-    };
+    let landed = round(rt, hub, flusher, gate);
+    if landed == Err(Refusal::OutOfMemory) {
+        return counts_of(rt, round(rt, hub, flusher, gate));
+    }
+    counts_of(rt, landed)
+}
+
+/// What a round landed that makes something durable.
+fn counts_of(rt: &impl Abort, landed: Result<Option<(u64, usize)>, Refusal>) -> (u64, usize) {
     match landed {
         Ok(Some(counts)) => counts,
         Ok(None) => panic!(rt; "nothing waits"),

@@ -5,7 +5,7 @@ use crate::slow::{Flags, await_flag};
 use commit_hub::{Hub, NodeLedger, Share};
 use decision_board::{Board, BoardReader, Naming};
 use group_commit::Stub;
-use ring_records::{Refusal, Reply};
+use ring_records::{Key, Refusal, Reply};
 use ring_service::HubService;
 use sessions::Service;
 use std::process::Abort;
@@ -145,13 +145,11 @@ impl<J: Naming, A: NodeLedger> Client<J, A> {
 
     /// Gives up the terms below 5, of which the group has a leader: a second time, and as it stands for term 4, it is refused.
     fn gives_up<'a, R: Wait + Abort>(self, rt: &'a R, hub: &'a Hub<A>, name: &str) -> Client<J, A> {
-        let same = reply(rt, Say::Refused(Cause::Retired(5)));
-        let below = reply(rt, Say::Refused(Cause::Retired(5)));
-        let floor = key(rt, name, 5).term;
         let mut service = self.serves(rt, hub);
-        assert!(rt; service.retire(&group(rt, name), floor) == Ok(reply(rt, Say::Retired)));
-        assert!(rt; service.retire(&group(rt, name), floor) == Ok(same));
-        assert!(rt; service.stand(key(rt, name, 4), bid(rt, 10)) == Ok(below));
+        let (floor, below) = (key(rt, name, 5), key(rt, name, 4));
+        retires(rt, &mut service, &floor, Say::Retired);
+        retires(rt, &mut service, &floor, BELOW);
+        stands(rt, &mut service, &below, BELOW);
         Client::served(service)
     }
 
@@ -203,16 +201,50 @@ const AGAIN: Say = Say::Refused(Cause::Already(10));
 /// What a Retire is answered where no leader is known.
 const EARLY: Say = Say::Refused(Cause::Undecided);
 
+const BELOW: Say = Say::Refused(Cause::Retired(5));
+
+/// Stands with bid 10 for this term, and is answered so.
+fn stands<J: Naming, A: NodeLedger, R: Wait + Abort>(
+    rt: &R,
+    service: &mut HubService<'_, R, J, A>,
+    key: &Key,
+    say: Say,
+) {
+    let answer = service.stand(*key, bid(rt, 10));
+    assert!(rt; answer == Ok(reply(rt, say)));
+}
+
+/// Gives up the terms below this one, and is answered so.
+fn retires<J: Naming, A: NodeLedger, R: Wait + Abort>(
+    rt: &R,
+    service: &mut HubService<'_, R, J, A>,
+    key: &Key,
+    say: Say,
+) {
+    let answer = service.retire(&key.group, key.term);
+    assert!(rt; answer == Ok(reply(rt, say)));
+}
+
+/// No leader is known of the group.
+fn knows_nobody<J: Naming, A: NodeLedger, R: Wait + Abort>(
+    rt: &R,
+    service: &mut HubService<'_, R, J, A>,
+    key: &Key,
+) {
+    assert!(rt; service.who(key) == Ok(reply(rt, Say::Nobody)));
+    assert!(rt; service.latest(&key.group) == Ok(reply(rt, Say::NoTerm)));
+}
+
 /// Stands twice with bid 10: the second is refused, and no leader is known, so no floor is taken.
 fn asks_twice<J: Naming, A: NodeLedger, R: Wait + Abort>(
     rt: &R,
     service: &mut HubService<'_, R, J, A>,
     name: &str,
 ) {
-    assert!(rt; service.stand(key(rt, name, 5), bid(rt, 10)) == Ok(reply(rt, Say::Stood)));
-    assert!(rt; service.stand(key(rt, name, 5), bid(rt, 10)) == Ok(reply(rt, AGAIN)));
+    let key = key(rt, name, 5);
+    stands(rt, service, &key, Say::Stood);
+    stands(rt, service, &key, AGAIN);
     assert!(rt; is_of(service.last(), reply(rt, AGAIN)));
-    assert!(rt; service.who(&key(rt, name, 5)) == Ok(reply(rt, Say::Nobody)));
-    assert!(rt; service.latest(&group(rt, name)) == Ok(reply(rt, Say::NoTerm)));
-    assert!(rt; service.retire(&group(rt, name), key(rt, name, 5).term) == Ok(reply(rt, EARLY)));
+    knows_nobody(rt, service, &key);
+    retires(rt, service, &key, EARLY);
 }

@@ -1,14 +1,18 @@
-//! The tests of rounds: by calls, and with clients beside a flusher, in threads of their own.
+//! The tests of a board, of a hub, and of rounds: by calls, and with clients beside a flusher, in threads of their own.
 #![tactic(auto)]
 
 #[cfg(test)]
 mod appenders;
+#[cfg(test)]
+mod board;
 #[cfg(test)]
 mod calls;
 #[cfg(test)]
 mod clients;
 #[cfg(test)]
 mod held;
+#[cfg(test)]
+mod hub;
 #[cfg(test)]
 mod hubs;
 #[cfg(test)]

@@ -98,12 +98,24 @@ impl<V: Device, J: Naming, A: NodeLedger> Station<V, J, A> {
             Step::Redeems => self.redeems(rt),
             Step::Takes(first, end) => self.takes(rt, first, end),
             Step::TakesLeaders => self.takes_leaders(rt),
-            Step::Rounds(first, count, leaders) => self.rounds(rt, first, count, leaders),
-            Step::RoundsAtLast(first, count, leaders) => self.lands(rt, first, count, leaders),
-            Step::RoundsNot => self.rounds_not(rt),
             Step::Leads(ask) => self.leads(rt, ask),
             Step::Fails => self.fails(rt),
             Step::Closes => self.hub.close(rt),
+            step => self.flushes(rt, step),
+        }
+    }
+
+    fn flushes<R: Wait + Abort + AllocGlobal>(&mut self, rt: &R, step: Step) {
+        match step {
+            Step::Rounds(first, count, leaders) => self.rounds(rt, first, count, leaders),
+            Step::RoundsAtLast(first, count, leaders) => self.lands(rt, first, count, leaders),
+            Step::RoundsNot => self.rounds_not(rt),
+            step => self.finds(rt, step),
+        }
+    }
+
+    fn finds<R: Wait + Abort + AllocGlobal>(&mut self, rt: &R, step: Step) {
+        match step {
             Step::Reads(name, leads) => self.client.reads(rt, name, leads),
             Step::Leader(name, term, bid, node) => self.client.knows(rt, name, term, bid, node),
             Step::Below(name, term, floor) => self.client.is_below(rt, name, term, floor),

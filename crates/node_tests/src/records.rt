@@ -1,0 +1,8 @@
+// What no clause says of ring_records, and that its definitions say what is meant.
+mod growths;
+mod records;
+mod rows;
+mod snapshots;
+mod texts;
+mod values;
+mod worked;

@@ -1,0 +1,6 @@
+// A hub by calls.
+mod bounds;
+mod calls;
+mod ends;
+mod rows;
+mod station;
