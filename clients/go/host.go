@@ -57,6 +57,31 @@ func withinBrackets(text string) (string, error) {
 	return host, requireHost(host)
 }
 
+// placeOf gives the host and the port of a text as 10.0.0.5:7100 or [fd00::5]:7100; a port alone is one of this host. Else
+// a [WrongRingError].
+func placeOf(text, host string) (string, int, error) {
+	at := strings.LastIndex(text, ":")
+	ports, isSo := numbers(portText, text[at+1:])
+	if !isSo || ports[0] < 1 || ports[0] > lastPort {
+		return "", 0, &WrongRingError{fmt.Sprintf("%q: a port is told as 7100, or as 10.0.0.5:7100", text)}
+	}
+	if at < 0 {
+		return host, ports[0], nil
+	}
+	host, err := withinBrackets(text[:at])
+	return host, ports[0], err
+}
+
+// isSameHost tells whether two hosts are told as one address, or by one name.
+func isSameHost(one, other string) bool {
+	one, other = hostOf(one), hostOf(other)
+	address, err := netip.ParseAddr(one)
+	if known, fault := netip.ParseAddr(other); err == nil && fault == nil {
+		return address == known
+	}
+	return strings.EqualFold(one, other)
+}
+
 // hostOf is the host, or this one where none is told, or localhost is. No other name is looked up for that: it may be one
 // of this host alone here, and of another one elsewhere.
 func hostOf(host string) string {

@@ -27,6 +27,7 @@ const (
 )
 
 var (
+	portText   = regexp.MustCompile(`^([0-9]{1,5})$`)
 	portsText  = regexp.MustCompile(`^([0-9]{1,5})-([0-9]{1,5})$`)
 	whoText    = regexp.MustCompile(`^leader ([0-9]+) ([0-9]+)$`)
 	latestText = regexp.MustCompile(`^term ([0-9]+) leader ([0-9]+) ([0-9]+)$`)
@@ -93,7 +94,8 @@ func ParseRing(text string) (*Ring, error) {
 }
 
 // RingFromEnv gives the ring of CINOWETA_RING, as [ParseRing] does, with the status port of CINOWETA_STATUS, which may
-// be left out, and stands behind the ring's host or alone.
+// be left out, and stands behind the ring's host or alone. A [WrongRingError] where that is no port, or stands behind
+// another host.
 func RingFromEnv() (*Ring, error) {
 	ring, err := ParseRing(os.Getenv("CINOWETA_RING"))
 	if err != nil {
@@ -103,12 +105,14 @@ func RingFromEnv() (*Ring, error) {
 	if text == "" {
 		return ring, nil
 	}
-	port, err := strconv.ParseUint(strings.TrimPrefix(text, strings.TrimSuffix(address(ring.Host, 0), "0")), 10, 16)
-	if err != nil {
-		wrong := &WrongRingError{fmt.Sprintf("%q is no port of %s", text, ring.Host)}
-		return nil, fmt.Errorf("CINOWETA_STATUS: %w", wrong)
+	host, port, err := placeOf(text, ring.Host)
+	if err == nil && !isSameHost(host, ring.Host) {
+		err = &WrongRingError{fmt.Sprintf("%s: the ring is one of %s", text, ring.Host)}
 	}
-	ring.Status = int(port)
+	if err != nil {
+		return nil, fmt.Errorf("CINOWETA_STATUS: %w", err)
+	}
+	ring.Status = port
 	return ring, nil
 }
 
