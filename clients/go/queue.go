@@ -26,11 +26,11 @@ type place struct {
 	// What the beacon tells, a line each, until the connection ends; over is closed once nobody takes it any more.
 	told chan string
 	over chan struct{}
-	// The place that was told last, who comes next where that was told with it, when was asked last, and since when an
-	// answer is missing, if one is.
-	number, next  int
-	isNext        bool
-	asked, missed time.Time
+	// The place that was told last, who comes next where that was told with it, when was asked last, since when an answer is
+	// missing, if one is, and whether it did not come for as long as it was waited for.
+	number, next     int
+	isNext, isSilent bool
+	asked, missed    time.Time
 }
 
 // newPlace gives the place in line at the beacon of this bid that is told within so long for a line; nil where none is.
@@ -116,7 +116,12 @@ func (p *place) await(ctx context.Context, patience time.Duration) (next int, is
 				return 0, false
 			}
 		case <-timer.C:
-			if !p.missed.IsZero() || !p.send(strconv.Itoa(p.bid)) {
+			if !p.missed.IsZero() {
+				// Where this process was paused it may have come, and is not read yet.
+				p.isSilent = time.Since(p.missed) < patience+earlyEnd
+				return 0, false
+			}
+			if !p.send(strconv.Itoa(p.bid)) {
 				return 0, false
 			}
 			p.asked, p.missed = time.Now(), time.Now()
@@ -171,7 +176,11 @@ func (q *queue) stay(ctx context.Context, bid int) bool {
 			continue
 		}
 		next, isNext := q.place.await(ctx, q.patience)
-		number := q.place.number
+		number, limit := q.place.number, q.patience
+		if q.place.isSilent {
+			// It was waited for as long already.
+			limit = earlyEnd
+		}
 		if ctx.Err() != nil {
 			return false
 		}
@@ -180,7 +189,7 @@ func (q *queue) stay(ctx context.Context, bid int) bool {
 			q.follow(ctx, next, time.Now().Add(grace))
 			return true
 		}
-		if !isThere(ctx, bid, earlyEnd) && ended(ctx) == nil {
+		if !isThere(ctx, bid, limit) && ended(ctx) == nil {
 			q.letPass(ctx, number)
 			return true
 		}

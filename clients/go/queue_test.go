@@ -362,6 +362,41 @@ func TestAHolderThatIsPausedIsGoneForWhoWaitsInLine(t *testing.T) {
 	same(t, waits.Load(), 1)
 }
 
+func TestAHolderThatEndsAConnectionMayAnswerLate(t *testing.T) {
+	ring, _, votes := elected(t)
+	var waits atomic.Int32
+	standsIn(t, votes, func(conn net.Conn, line string) {
+		switch {
+		case strings.HasPrefix(line, "wait"):
+			waits.Add(1)
+			fmt.Fprintln(conn, "place 1")
+			time.Sleep(100 * time.Millisecond)
+			conn.Close()
+		case strings.HasPrefix(line, "holder"):
+			fmt.Fprintln(conn, strings.TrimPrefix(line, "holder "))
+		default:
+			time.Sleep(600 * time.Millisecond)
+			fmt.Fprintln(conn, line)
+		}
+	})
+	ctx, cancel := context.WithTimeout(background(t), 3*time.Second)
+	defer cancel()
+	as[*LockTakenError](t, lockOf(t, ring, LockOptions{Patience: DefaultPatience}).Acquire(ctx))
+	same(t, []any{len(votes.stood), waits.Load() > 1}, []any{1, true})
+}
+
+func TestWhoWasPausedMissedNoAnswer(t *testing.T) {
+	holder := beaconOf(t)
+	for late, isSilent := range map[time.Duration]bool{0: true, time.Minute: false} {
+		line := fmt.Sprintf("wait %d 5 0 7 ", holder.bid())
+		place := newPlace(background(t), holder.bid(), line, time.Second)
+		place.missed = time.Now().Add(-time.Second - late)
+		_, isNext := place.await(background(t), time.Second)
+		same(t, []bool{isNext, place.isSilent}, []bool{false, isSilent})
+		place.leave()
+	}
+}
+
 func TestABeaconWithoutALineIsAskedOnceASecond(t *testing.T) {
 	ring, _, votes := elected(t)
 	var asked atomic.Int32
