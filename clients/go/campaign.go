@@ -144,7 +144,7 @@ func (c *campaign) run(ctx context.Context) (Election, error) {
 	if !isKnown {
 		return Election{}, c.noLeader(ctx)
 	}
-	return c.end(known)
+	return c.end(ctx, known)
 }
 
 // runOnce gives the same within tryLimit: else a [NoLeaderError], or a [NoAnswerError] where no node answered.
@@ -175,17 +175,46 @@ func (c *campaign) noLeader(ctx context.Context) *NoLeaderError {
 }
 
 // end judges who leads.
-func (c *campaign) end(known Led) (Election, error) {
+func (c *campaign) end(ctx context.Context, known Led) (Election, error) {
 	if c.stood[known] {
 		return Election{known, true}, nil
 	}
 	for own := range c.stood {
-		if own.Term == known.Term && own.Leader.Bid == known.Leader.Bid {
-			const text = "who stood at node %d leads at node %d: give all ports"
-			return Election{}, &WrongRingError{fmt.Sprintf(text, own.Leader.Node, known.Leader.Node)}
+		if own.Term != known.Term || own.Leader.Bid != known.Leader.Bid {
+			continue
+		}
+		if err := c.requireOther(ctx, own, known); err != nil {
+			return Election{}, err
 		}
 	}
 	return Election{known, false}, nil
+}
+
+// requireOther gives a [WrongRingError] where no other process has, by chance, the bid with which this one stood so, and
+// leads: that one's node stands with it too, which is asked the same again. The term is decided, so that this changes
+// nothing. Where the node gives no answer that tells, its fault.
+func (c *campaign) requireOther(ctx context.Context, own, known Led) error {
+	const text = "who stood at node %d leads at node %d: give all ports"
+	wrong := &WrongRingError{fmt.Sprintf(text, own.Leader.Node, known.Leader.Node)}
+	if known.Leader.Node > c.ring.nodes {
+		return wrong
+	}
+	// A session holds one of its node's doors, of which there may be one. What is asked over another Ring, and gets no
+	// answer, is not remembered as a Stand of this one.
+	c.ring.release(ctx)
+	ring := c.ring.within(c.ring.timeout())
+	defer ring.release(ctx)
+	_, err := ring.askNode(ctx, fmt.Sprintf("stand %s %d %d", c.group, known.Term, known.Leader.Bid), known.Leader.Node)
+	var refused *RefusedError
+	isOwnBid := errors.As(err, &refused) && *refused == RefusedError{ErrAlreadyStands, fmt.Sprintf("already %d", known.Leader.Bid)}
+	switch {
+	case isOwnBid || errors.Is(err, ErrRetired):
+		return nil
+	case isPassing(err):
+		return err
+	default:
+		return wrong
+	}
 }
 
 // retire has each node retire the terms that who leads in this one does not keep, but those that refuse or are away.

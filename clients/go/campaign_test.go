@@ -333,9 +333,62 @@ func TestPortsThatDoNotBeginWithNode1AreSeen(t *testing.T) {
 		told, _ := votes.answer(line)
 		return strings.Replace(told, "leader 1", "leader 2", 1), true
 	}
-	ring, _ := beside(t, second, second)
+	third := func(line string) (string, bool) {
+		if strings.HasPrefix(line, "stand") {
+			return "no 4 late", true
+		}
+		return second(line)
+	}
+	ring, _ := beside(t, second, third)
 	_, err := ring.Campaign(background(t), "red", short(CampaignOptions{}))
-	as[*WrongRingError](t, err)
+	same(t, as[*WrongRingError](t, err).Text, "who stood at node 1 leads at node 2: give all ports")
+}
+
+// sameBid gives a ring at whose node 1 a campaign stands in term 1 with the bid 10, and at whose node 2, which is asked
+// about that so, another one that leads.
+func sameBid(t *testing.T, leader string, asked answer) (*campaign, []*node) {
+	t.Helper()
+	ring, nodes := beside(t, first("none", "stood", leader, leader), asked)
+	ring.Timeout = 500 * time.Millisecond
+	campaign, err := newCampaign(ring, "red", 10, short(CampaignOptions{}))
+	must(t, err)
+	return campaign, nodes
+}
+
+func TestAnotherOneWithTheSameBidLeads(t *testing.T) {
+	const leader = "term 1 leader 2 10"
+	// Also where the answer is lost at first, or that node retired the term since.
+	for _, asked := range []answer{always("no 3 already 10"), first("", "no 3 already 10", "no 3 already 10"), always("no 23 retired 5")} {
+		campaign, nodes := sameBid(t, leader, asked)
+		election, err := campaign.run(background(t))
+		must(t, err)
+		same(t, election, Election{Led{1, Leader{2, 10}}, false})
+		same(t, nodes[1].lines("")[0], "stand red 1 10")
+		same(t, campaign.ring.unanswered.has(stood{2, "stand red 1 10"}), false)
+		election, err = campaign.run(background(t))
+		must(t, err)
+		same(t, election.IsMine, false)
+	}
+	for told, cause := range map[string]error{"no 9 failed": ErrNodeFailed, "no 7 full": ErrFull, "no 8 memory": ErrOutOfMemory} {
+		campaign, _ := sameBid(t, leader, always(told))
+		_, err := campaign.run(background(t))
+		is(t, err, cause)
+	}
+	campaign, _ := sameBid(t, leader, deaf)
+	_, err := campaign.run(background(t))
+	same(t, as[*NoAnswerError](t, err).Address, campaign.ring.address(2))
+}
+
+func TestPortsOfOtherNodesAreNotThoseOfAnotherOneWithTheSameBid(t *testing.T) {
+	for _, told := range []string{"no 4 late", "no 3 already 11", "no 5 stale 9", "stood", "none"} {
+		campaign, _ := sameBid(t, "term 1 leader 2 10", always(told))
+		_, err := campaign.run(background(t))
+		as[*WrongRingError](t, err)
+	}
+	campaign, nodes := sameBid(t, "term 1 leader 3 10", deaf)
+	_, err := campaign.run(background(t))
+	same(t, as[*WrongRingError](t, err).Text, "who stood at node 1 leads at node 3: give all ports")
+	same(t, len(nodes[1].lines("")), 0)
 }
 
 func TestACampaignEndsWithItsContext(t *testing.T) {

@@ -601,3 +601,27 @@ func TestAStatusPortThatAnswersAtOnceIsAskedNoMoreOften(t *testing.T) {
 	// Twice for each pause.
 	same(t, asked.Load() <= 2*int32(time.Second/shortestPause)+2, true)
 }
+
+func TestWhoHasTheBidOfAnotherOneWaitsForIt(t *testing.T) {
+	ring, nodes, votes, _ := across(t, otherHost)
+	lock, told := acrossOf(t, ring, LockOptions{}), tells{}
+	lock.how.Tell = told.tell
+	campaign, err := lock.begin(func() {})
+	must(t, err)
+	campaign.places = []int{1}
+	other, err := openSession(background(t), ring.address(2), time.Second)
+	must(t, err)
+	// Whoever stands at node 1 finds that another one with its bid leads at node 2, where it is present for a moment.
+	nodes[0].is(func(line string) (string, bool) {
+		told, isTold := votes.at(1)(line)
+		if line == fmt.Sprint("stand red 1 ", campaign.bid) && told == "stood" {
+			votes.lead(1, 2, campaign.bid)
+			other.ask(background(t), line, time.Second)
+			time.AfterFunc(time.Second, other.close)
+		}
+		return told, isTold
+	})
+	led, err := lock.contend(background(t), background(t), campaign)
+	must(t, lock.settle(led, time.Now(), err))
+	same(t, []any{lock.Term(), told.all()}, []any{2, "waits for node 2 in term 1"})
+}
