@@ -28,13 +28,12 @@ func (l *Lock) IsLost(ctx context.Context) (bool, error) {
 	return !l.isHeld, err
 }
 
-// look asks who leads, and has the lock be lost where that is in a greater term.
+// look asks another node than the last time who leads, and has the lock be lost where that is in a greater term.
 func (l *Lock) look(ctx context.Context) error {
 	begun := time.Now()
 	known, isKnown, err := Led{}, false, error(nil)
 	if !l.ring.silence.isWithin(l.every) {
-		known, isKnown, err = l.looks.Latest(ctx, l.group, AnyNode)
-		l.looks.release(ctx)
+		known, isKnown, err = l.ask(ctx)
 	}
 	if isNoAnswer(err) && ended(ctx) == nil {
 		l.ring.silence.begin()
@@ -52,11 +51,18 @@ func (l *Lock) look(ctx context.Context) error {
 		l.resign(0)
 	case isKnown && known.Term == l.term:
 		l.heard = begun
-	default:
-		// Another node may know more.
-		l.looks.pass(ctx)
 	}
 	return err
+}
+
+// ask asks a node who leads, of which the next one may know more. Where one gave no answer it is the next one's turn
+// anyway.
+func (l *Lock) ask(ctx context.Context) (Led, bool, error) {
+	known, isKnown, err := l.looks.Latest(ctx, l.group, AnyNode)
+	if !isNoAnswer(err) {
+		l.looks.pass(ctx)
+	}
+	return known, isKnown, err
 }
 
 // awaitLoss looks whether the lock is lost until it is, or the context is over.

@@ -2,6 +2,7 @@ package cinoweta
 
 import (
 	"context"
+	"fmt"
 	"testing"
 	"time"
 )
@@ -54,6 +55,43 @@ func holderWaits(lock *Lock) bool {
 	lock.mutex.Lock()
 	defer lock.mutex.Unlock()
 	return lock.leave != nil
+}
+
+// toldInLooks looks so often that the lock is lost at most.
+func toldInLooks(t *testing.T, lock *Lock, count int) {
+	t.Helper()
+	for look := 1; holds(t, lock); look++ {
+		if look == count {
+			t.Fatalf("it is not lost in %d looks", count)
+		}
+	}
+}
+
+func TestALossIsToldWhereANodeLags(t *testing.T) {
+	for lags := range make([]struct{}, 2) {
+		ring, nodes, votes := elected(t)
+		lock := lockOf(t, ring, LockOptions{})
+		lock.every = 0
+		must(t, lock.Acquire(background(t)))
+		led := votes.led()
+		nodes[lags].is(always(fmt.Sprintf("term 1 leader %d %d", led.Leader.Node, led.Leader.Bid)))
+		same(t, []bool{holds(t, lock), holds(t, lock), holds(t, lock)}, []bool{true, true, true})
+		votes.lead(2, 2, 5)
+		toldInLooks(t, lock, 3)
+	}
+}
+
+func TestALossIsToldWhereANodeIsSilent(t *testing.T) {
+	for silent := range make([]struct{}, 2) {
+		ring, nodes, votes := elected(t)
+		ring.Timeout = 100 * time.Millisecond
+		lock := lockOf(t, ring, LockOptions{})
+		lock.every = 0
+		must(t, lock.Acquire(background(t)))
+		nodes[silent].is(never(t))
+		votes.lead(2, 2, 5)
+		toldInLooks(t, lock, 3)
+	}
 }
 
 // gaveUp has a lock be held that is given up after a second and a half, while the nodes change, and gives after how long it was
