@@ -12,8 +12,8 @@ const (
 	// DefaultPatience is how long a holder of a lock may be silent before it is taken for gone.
 	DefaultPatience = 5 * time.Second
 
-	// How often is asked whether a lock is lost.
-	lookEvery = time.Second
+	// How often is asked whether a lock is lost, or so many times within its GiveUp where that is less.
+	lookEvery, looksWithin = time.Second, 5
 	// Across hosts who waited for the end of one holder, or two, leaves the next term so many times so long to who waited for
 	// more: an election takes about as long.
 	olderPause, olderEnds = 20 * time.Millisecond, 3
@@ -89,8 +89,16 @@ func NewLock(ring *Ring, group string, how LockOptions) *Lock {
 	if how.Patience <= 0 {
 		how.Patience = DefaultPatience
 	}
-	return &Lock{ring: ring, group: group, how: how, looks: ring.within(lookEvery), every: lookEvery, wait: DefaultWait,
-		older: olderPause, showing: usualShowTimes}
+	every := lookEvery
+	if how.GiveUp > 0 {
+		// For one look that a node leaves unanswered, and the pauses before and behind it, nobody gives up.
+		every = atMost(every, how.GiveUp/looksWithin)
+	}
+	if every < leastPatience {
+		every = leastPatience
+	}
+	return &Lock{ring: ring, group: group, how: how, looks: ring.within(atMost(lookEvery, 2*every)), every: every,
+		wait: DefaultWait, older: olderPause, showing: usualShowTimes}
 }
 
 // Acquire waits until this process leads, or the context is over: then a [LockTakenError] where another process holds

@@ -8,8 +8,9 @@ import (
 )
 
 // IsLost tells whether this process does not hold the lock any more: it resigned, a greater term is known, or it gives up,
-// as its options may say. The ring is asked once a second at most. Where no node answers, or one finds no memory to,
-// nothing is known to be lost; for all locks of a [Ring] that is found out once a second.
+// as its options may say. The ring is asked once a second at most, or five times within its GiveUp where that is less.
+// Where no node answers, or one finds no memory to, nothing is known to be lost; for all locks of a [Ring] that is found
+// out once a second.
 func (l *Lock) IsLost(ctx context.Context) (bool, error) {
 	l.mutex.Lock()
 	isDue := l.isHeld && time.Since(l.asked) >= l.every
