@@ -97,8 +97,10 @@ func NewLock(ring *Ring, group string, how LockOptions) *Lock {
 	if every < leastPatience {
 		every = leastPatience
 	}
-	return &Lock{ring: ring, group: group, how: how, looks: ring.within(atMost(lookEvery, 2*every)), every: every,
-		wait: DefaultWait, older: olderPause, showing: usualShowTimes}
+	looks := ring.within(atMost(lookEvery, 2*every))
+	looks.passes = &ring.silence
+	return &Lock{ring: ring, group: group, how: how, looks: looks, every: every, wait: DefaultWait, older: olderPause,
+		showing: usualShowTimes}
 }
 
 // Acquire waits until this process leads, or the context is over: then a [LockTakenError] where another process holds

@@ -7,6 +7,9 @@ import (
 	"time"
 )
 
+// A node that left a look unanswered is asked by none for so long, where another one may be.
+const silentRest = 10 * time.Second
+
 // IsLost tells whether this process does not hold the lock any more: it resigned, a greater term is known, or it gives up,
 // as its options may say. The ring is asked once a second at most, or five times within its GiveUp where that is less.
 // Where no node answers, or one finds no memory to, nothing is known to be lost; for all locks of a [Ring] that is found
@@ -56,12 +59,19 @@ func (l *Lock) look(ctx context.Context) error {
 	return err
 }
 
-// ask asks a node who leads, of which the next one may know more. Where one gave no answer it is the next one's turn
-// anyway.
-func (l *Lock) ask(ctx context.Context) (Led, bool, error) {
-	known, isKnown, err := l.looks.Latest(ctx, l.group, AnyNode)
-	if !isNoAnswer(err) {
+// ask asks who leads: the node behind the one that was asked last, since that may lag, and those behind it, as long as they
+// know no term as great as this lock's. Where one gave no answer it is the next one's turn anyway.
+func (l *Lock) ask(ctx context.Context) (known Led, isKnown bool, err error) {
+	term := l.Term()
+	for left := l.looks.nodes; left > 0; left-- {
+		known, isKnown, err = l.looks.Latest(ctx, l.group, AnyNode)
+		if isNoAnswer(err) {
+			break
+		}
 		l.looks.pass(ctx)
+		if isKnown && known.Term >= term || err != nil && !errors.Is(err, ErrOutOfMemory) {
+			break
+		}
 	}
 	return known, isKnown, err
 }
@@ -106,10 +116,11 @@ func (l *Lock) givesUp() time.Time {
 	return l.heard.Add(l.how.GiveUp)
 }
 
-// A silence is that of a ring that did not answer.
+// A silence is that of a ring that did not answer, and of those of its nodes that did not.
 type silence struct {
 	mutex sync.Mutex
 	begun time.Time
+	nodes map[int]time.Time
 }
 
 // begin has it begin now.
@@ -124,4 +135,26 @@ func (s *silence) isWithin(length time.Duration) bool {
 	s.mutex.Lock()
 	defer s.mutex.Unlock()
 	return !s.begun.IsZero() && time.Since(s.begun) < length
+}
+
+// hear takes whether a node answered.
+func (s *silence) hear(node int, isTold bool) {
+	s.mutex.Lock()
+	defer s.mutex.Unlock()
+	if isTold {
+		delete(s.nodes, node)
+		return
+	}
+	if s.nodes == nil {
+		s.nodes = map[int]time.Time{}
+	}
+	s.nodes[node] = time.Now()
+}
+
+// isOf tells whether this node did not answer lately.
+func (s *silence) isOf(node int) bool {
+	s.mutex.Lock()
+	defer s.mutex.Unlock()
+	begun, isSilent := s.nodes[node]
+	return isSilent && time.Since(begun) < silentRest
 }

@@ -149,6 +149,67 @@ func TestALockOfAShortGiveUpIsHeldWhereNodesAnswer(t *testing.T) {
 	}
 }
 
+func TestOneNodeThatIsSilentHasNobodyGiveUp(t *testing.T) {
+	for silent := range make([]struct{}, 3) {
+		votes := newVotes()
+		ring, nodes := beside(t, votes.at(1), votes.at(2), votes.at(3))
+		lock := lockOf(t, ring, LockOptions{GiveUp: time.Second})
+		never := never(t)
+		must(t, lock.Run(background(t), func(ctx context.Context, _ int) error {
+			nodes[silent].is(never)
+			sleep(ctx, 3*time.Second)
+			return ctx.Err()
+		}))
+		// It was asked once.
+		same(t, len(nodes[silent].lines("latest")) <= 3, true)
+	}
+}
+
+func TestNodesThatHaveNotHeardOfTheTermHaveNobodyGiveUp(t *testing.T) {
+	votes := newVotes()
+	ring, nodes := beside(t, votes.at(1), votes.at(2), votes.at(3), votes.at(4), votes.at(5), votes.at(6), votes.at(7))
+	lock := lockOf(t, ring, LockOptions{GiveUp: time.Second})
+	must(t, lock.Run(background(t), func(ctx context.Context, _ int) error {
+		for _, node := range nodes[:3] {
+			node.is(always("none"))
+		}
+		for _, node := range nodes[4:] {
+			node.is(always("no 8 memory"))
+		}
+		sleep(ctx, 3*time.Second)
+		return ctx.Err()
+	}))
+}
+
+func TestALossIsToldForAllLocksWhereANodeIsSilent(t *testing.T) {
+	ring, nodes, _ := elected(t)
+	locks, all := []*Lock{}, groups{votes: map[string]*votes{}}
+	for place, node := range nodes {
+		node.is(all.at(place + 1))
+	}
+	for number := range make([]struct{}, 20) {
+		lock := NewLock(ring, fmt.Sprint("red-", number), LockOptions{})
+		must(t, lock.Acquire(background(t)))
+		defer lock.Resign()
+		locks = append(locks, lock)
+	}
+	nodes[0].is(never(t))
+	for _, votes := range all.votes {
+		votes.lead(2, 2, 5)
+	}
+	before, left := time.Now(), len(locks)
+	for left > 0 && time.Since(before) < 20*time.Second {
+		left = 0
+		for _, lock := range locks {
+			if holds(t, lock) {
+				left++
+			}
+		}
+		time.Sleep(50 * time.Millisecond)
+	}
+	same(t, []any{left, time.Since(before) < 6*time.Second}, []any{0, true})
+}
+
 func TestWhoLooksSeldomAsksBeforeItGivesUp(t *testing.T) {
 	ring, nodes, _ := elected(t)
 	lock := lockOf(t, ring, LockOptions{GiveUp: 1500 * time.Millisecond})

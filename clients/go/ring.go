@@ -56,6 +56,8 @@ type Ring struct {
 	unanswered unanswered
 	silence    silence
 	handed     handed
+	// Where it is there, a question of any node is not asked of one that is silent by it, as long as another one is not.
+	passes *silence
 }
 
 // NewRing gives the ring whose node 1 listens at the port first, and the last one at last. Nobody is asked yet.
@@ -245,9 +247,13 @@ func (r *Ring) askAgain(ctx context.Context, line string, node int) (string, err
 	for pause := againPause; ; pause = atMost(longestPause, 2*pause) {
 		place := node
 		if node == AnyNode {
+			r.place = r.next()
 			place = r.place
 		}
 		answer, err := r.askOnce(ctx, line, place, time.Until(until))
+		if r.passes != nil && (err == nil || ended(ctx) == nil) {
+			r.passes.hear(place, err == nil)
+		}
 		if err == nil {
 			return answer, nil
 		}
@@ -263,6 +269,16 @@ func (r *Ring) askAgain(ctx context.Context, line string, node int) (string, err
 			return "", noAnswer(ctx, r.address(place), err)
 		}
 	}
+}
+
+// next is the node whose turn it is, or the first one behind that is not silent, if there is one.
+func (r *Ring) next() int {
+	for step := 0; r.passes != nil && step < r.nodes; step++ {
+		if place := (r.place-1+step)%r.nodes + 1; !r.passes.isOf(place) {
+			return place
+		}
+	}
+	return r.place
 }
 
 // askOnce gives the answer of this node, over the session that is open with it, or over a new one, where so long is
