@@ -65,6 +65,8 @@ type Lock struct {
 	// What looks whether the lock is lost waits for no other question, and is not waited for long.
 	looks *Ring
 	every time.Duration
+	// Has one place, taken by who looks.
+	turn chan struct{}
 	// How long a campaign waits in a term, and how long who waited for fewer ends leaves it to others.
 	wait, older time.Duration
 	showing     showTimes
@@ -99,8 +101,8 @@ func NewLock(ring *Ring, group string, how LockOptions) *Lock {
 	}
 	looks := ring.within(atMost(lookEvery, 2*every))
 	looks.passes = &ring.silence
-	return &Lock{ring: ring, group: group, how: how, looks: looks, every: every, wait: DefaultWait, older: olderPause,
-		showing: usualShowTimes}
+	return &Lock{ring: ring, group: group, how: how, looks: looks, every: every, turn: make(chan struct{}, 1),
+		wait: DefaultWait, older: olderPause, showing: usualShowTimes}
 }
 
 // Acquire waits until this process leads, or the context is over: then a [LockTakenError] where another process holds

@@ -15,13 +15,7 @@ const silentRest = 10 * time.Second
 // Where no node answers, or one finds no memory to, nothing is known to be lost; for all locks of a [Ring] that is found
 // out once a second.
 func (l *Lock) IsLost(ctx context.Context) (bool, error) {
-	l.mutex.Lock()
-	isDue := l.isHeld && time.Since(l.asked) >= l.every
-	l.mutex.Unlock()
-	var err error
-	if isDue {
-		err = l.look(ctx)
-	}
+	err := l.lookInTurn(ctx)
 	l.mutex.Lock()
 	defer l.mutex.Unlock()
 	if l.isHeld && l.how.GiveUp > 0 && time.Since(l.heard) >= l.how.GiveUp {
@@ -30,6 +24,30 @@ func (l *Lock) IsLost(ctx context.Context) (bool, error) {
 		go l.end().close()
 	}
 	return !l.isHeld, err
+}
+
+// isDue tells whether it is time for a look.
+func (l *Lock) isDue() bool {
+	l.mutex.Lock()
+	defer l.mutex.Unlock()
+	return l.isHeld && time.Since(l.asked) >= l.every
+}
+
+// lookInTurn looks where it is time for that, and another goroutine does not do so meanwhile, for which it waits.
+func (l *Lock) lookInTurn(ctx context.Context) error {
+	if !l.isDue() {
+		return nil
+	}
+	select {
+	case l.turn <- struct{}{}:
+		defer func() { <-l.turn }()
+	case <-ctx.Done():
+		return noAnswer(ctx, l.looks.address(1), nil)
+	}
+	if !l.isDue() {
+		return nil
+	}
+	return l.look(ctx)
 }
 
 // look asks another node than the last time who leads, and has the lock be lost where that is in a greater term.

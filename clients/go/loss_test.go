@@ -3,6 +3,7 @@ package cinoweta
 import (
 	"context"
 	"fmt"
+	"sync"
 	"testing"
 	"time"
 )
@@ -208,6 +209,46 @@ func TestALossIsToldForAllLocksWhereANodeIsSilent(t *testing.T) {
 		time.Sleep(50 * time.Millisecond)
 	}
 	same(t, []any{left, time.Since(before) < 6*time.Second}, []any{0, true})
+}
+
+func TestGoroutinesThatLookAtALockAskOnce(t *testing.T) {
+	ring, nodes, votes := elected(t)
+	lock := lockOf(t, ring, LockOptions{})
+	must(t, lock.Acquire(background(t)))
+	looks := func() time.Duration {
+		time.Sleep(lookEvery + 100*time.Millisecond)
+		var looks sync.WaitGroup
+		before := time.Now()
+		for range make([]struct{}, 20) {
+			looks.Add(1)
+			go func() {
+				defer looks.Done()
+				if isLost, err := lock.IsLost(background(t)); isLost || err != nil {
+					t.Error(isLost, err)
+				}
+			}()
+		}
+		looks.Wait()
+		return time.Since(before)
+	}
+	asked := func() int { return len(nodes[0].lines("latest")) + len(nodes[1].lines("latest")) }
+	before := asked()
+	same(t, []any{looks() < lookEvery, asked() - before}, []any{true, 1})
+	// One of them waits for a ring that hangs.
+	hangs := never(t)
+	nodes[0].is(hangs)
+	nodes[1].is(hangs)
+	same(t, looks() < 2*lookEvery, true)
+	// Who waits for another one's look does so until its context is over.
+	time.Sleep(lookEvery + 100*time.Millisecond)
+	lock.turn <- struct{}{}
+	ctx, cancel := context.WithTimeout(background(t), 50*time.Millisecond)
+	defer cancel()
+	_, err := lock.IsLost(ctx)
+	is(t, err, context.DeadlineExceeded)
+	<-lock.turn
+	nodes[0].is(votes.at(1))
+	nodes[1].is(votes.at(2))
 }
 
 func TestWhoLooksSeldomAsksBeforeItGivesUp(t *testing.T) {
