@@ -119,12 +119,17 @@ func (l *Lock) awaitLoss(ctx context.Context) error {
 
 // isLostInTime tells the same as IsLost, and is not late where the lock is given up.
 func (l *Lock) isLostInTime(ctx context.Context) (bool, error) {
-	if l.how.GiveUp > 0 {
-		limited, cancel := context.WithDeadline(ctx, l.givesUp())
-		defer cancel()
-		ctx = limited
+	if l.how.GiveUp <= 0 {
+		return l.IsLost(ctx)
 	}
-	return l.IsLost(ctx)
+	limited, cancel := context.WithDeadline(ctx, l.givesUp())
+	defer cancel()
+	isLost, err := l.IsLost(limited)
+	if isNoAnswer(err) && ended(ctx) == nil {
+		// Another goroutine heard of the lock while this one's time ended.
+		err = nil
+	}
+	return isLost, err
 }
 
 // givesUp is when the lock is given up, unless a node can tell before.

@@ -251,6 +251,27 @@ func TestGoroutinesThatLookAtALockAskOnce(t *testing.T) {
 	nodes[1].is(votes.at(2))
 }
 
+func TestALookThatItsGiveUpEndsIsNoFault(t *testing.T) {
+	ring, nodes, _ := elected(t)
+	lock := lockOf(t, ring, LockOptions{GiveUp: time.Minute})
+	must(t, lock.Acquire(background(t)))
+	lock.every = 0
+	hear := func(behind time.Duration) {
+		lock.mutex.Lock()
+		defer lock.mutex.Unlock()
+		lock.heard = time.Now().Add(behind - time.Minute)
+	}
+	hangs := never(t)
+	hear(200 * time.Millisecond)
+	nodes[0].is(func(line string) (string, bool) {
+		hear(time.Minute)
+		return hangs(line)
+	})
+	isLost, err := lock.isLostInTime(background(t))
+	must(t, err)
+	same(t, isLost, false)
+}
+
 func TestWhoLooksSeldomAsksBeforeItGivesUp(t *testing.T) {
 	ring, nodes, _ := elected(t)
 	lock := lockOf(t, ring, LockOptions{GiveUp: 1500 * time.Millisecond})
