@@ -4,6 +4,7 @@ import (
 	"context"
 	"errors"
 	"fmt"
+	"os"
 	"strconv"
 	"strings"
 )
@@ -217,10 +218,13 @@ func wrongAnswer(answer string) *WrongRingError {
 	return &WrongRingError{fmt.Sprintf("%q is no answer of a node", answer)}
 }
 
-// noAnswer says that nobody answered at an address, for this error or that of the context.
+// noAnswer says that nobody answered at an address, for this error or that of the context. The end of a time that its caller
+// did not set is none of a context.
 func noAnswer(ctx context.Context, address string, err error) *NoAnswerError {
 	if over := ended(ctx); over != nil {
 		err = over
+	} else if errors.Is(err, context.DeadlineExceeded) {
+		err = os.ErrDeadlineExceeded
 	}
 	return &NoAnswerError{address, err}
 }

@@ -2,10 +2,12 @@ package cinoweta
 
 import (
 	"context"
+	"errors"
 	"io"
 	"net"
 	"net/http"
 	"net/http/httptest"
+	"os"
 	"sync/atomic"
 	"testing"
 	"time"
@@ -155,4 +157,27 @@ func TestTheStatusPortMayTellLate(t *testing.T) {
 	same(t, []any{led, asked.Load()}, []any{Led{2, Leader{1, 5}}, 1})
 	// Nobody else had to be asked.
 	same(t, len(nodes[0].lines(""))+len(nodes[1].lines("")), 0)
+}
+
+func TestATimeThatNobodySetEndsNoContext(t *testing.T) {
+	leavesNone(t)
+	listener, err := net.Listen("tcp", address(ownHost, 0))
+	must(t, err)
+	defer listener.Close()
+	// It takes connections, and answers nothing.
+	port := listener.Addr().(*net.TCPAddr).Port
+	_, _, status := getWithin(background(t), "", port, "/health", 100*time.Millisecond)
+	ring := newRing(port, 2)
+	ring.Timeout = 100 * time.Millisecond
+	_, _, latest := ring.Latest(background(t), "red", 1)
+	// Nor does a connection that is not taken in time, which is told as the end of a context too.
+	_, dialed := openSession(background(t), address(ownHost, port), time.Nanosecond)
+	for _, fault := range []error{status, latest, noAnswer(background(t), "", dialed)} {
+		as[*NoAnswerError](t, fault)
+		same(t, []bool{errors.Is(fault, context.DeadlineExceeded), errors.Is(fault, os.ErrDeadlineExceeded)}, []bool{false, true})
+	}
+	ctx, cancel := context.WithTimeout(background(t), 100*time.Millisecond)
+	defer cancel()
+	_, err = Health(ctx, "", port)
+	is(t, err, context.DeadlineExceeded)
 }
