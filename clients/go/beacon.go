@@ -318,58 +318,79 @@ func isLine(text string) bool {
 }
 
 // askBeacon gives what the beacon of this bid answers to a line within so long; nothing where it does not. It is asked
-// again where a connection came to nothing for another cause than that it is gone, as want of descriptors.
-func askBeacon(ctx context.Context, bid int, line string, limit time.Duration) string {
+// again where a connection came to nothing for another cause than that it is gone, as want of descriptors: where that was
+// so, it was not asked for so long.
+func askBeacon(ctx context.Context, bid int, line string, limit time.Duration) (answer string, isAsked bool) {
 	ctx, cancel := context.WithTimeout(ctx, limit)
 	defer cancel()
+	isAsked = true
 	// Of a process that ends, what it listens at may be closed a moment later than what it was connected to.
 	for pause := stoodPause; ; pause = atMost(shortestPause, 2*pause) {
-		answer, isSure := askBeaconOnce(ctx, bid, line, limit)
-		if isSure || ended(ctx) != nil {
-			return answer
+		answer, err := askBeaconOnce(ctx, bid, line, limit)
+		if err == nil || errors.Is(err, errGone) {
+			return answer, true
+		}
+		isAsked = isAsked && !isWanting(err)
+		if ended(ctx) != nil {
+			return "", isAsked
 		}
 		sleep(ctx, pause)
 	}
 }
 
-// askBeaconOnce gives the same over one connection, and whether that is sure: that it answered, or is gone.
-func askBeaconOnce(ctx context.Context, bid int, line string, limit time.Duration) (answer string, isSure bool) {
+// errGone says that a beacon is sure not to be there.
+var errGone = errors.New("the beacon is gone")
+
+// isWanting tells whether a connection came to nothing for want of something here.
+func isWanting(err error) bool {
+	for _, cause := range []error{syscall.EMFILE, syscall.ENFILE, syscall.ENOBUFS, syscall.ENOMEM, syscall.EADDRNOTAVAIL} {
+		if errors.Is(err, cause) {
+			return true
+		}
+	}
+	return false
+}
+
+// askBeaconOnce gives the same over one connection; errGone where the beacon is sure not to be there.
+func askBeaconOnce(ctx context.Context, bid int, line string, limit time.Duration) (string, error) {
 	// From here on, so that a pause of this process makes no end an early one.
 	begun := time.Now()
-	conn, isSure := dialBeacon(ctx, bid, limit)
-	if conn == nil {
-		return "", isSure
+	conn, err := dialBeacon(ctx, bid, limit)
+	if err != nil {
+		return "", err
 	}
 	defer conn.Close()
 	defer endWith(ctx, conn)()
 	answer, err := exchange(conn, line+"\n", longestQuestion+longestText, 1)
-	if err != nil {
-		isEarly := time.Since(begun) < earlyEnd
-		return "", errors.Is(err, errTooLong) || errors.Is(err, io.EOF) && isEarly
+	isEarly := time.Since(begun) < earlyEnd
+	if errors.Is(err, errTooLong) || errors.Is(err, io.EOF) && isEarly {
+		err = errGone
 	}
-	return answer, true
+	return answer, err
 }
 
-// dialBeacon gives a connection to the beacon of this bid; else nil, and whether it is sure that there is none.
-func dialBeacon(ctx context.Context, bid int, limit time.Duration) (conn net.Conn, isSure bool) {
+// dialBeacon gives a connection to the beacon of this bid; errGone where it is sure that there is none.
+func dialBeacon(ctx context.Context, bid int, limit time.Duration) (net.Conn, error) {
 	port := portOf(bid)
 	if kindOf(bid) != isOnOneHost || port > lastPort {
-		return nil, true
+		return nil, errGone
 	}
 	conn, err := dial(ctx, address(ownHost, port), limit)
-	if err != nil {
-		return nil, errors.Is(err, syscall.ECONNREFUSED)
+	if errors.Is(err, syscall.ECONNREFUSED) {
+		return nil, errGone
 	}
 	// Where nobody listens, the system may join a connection to itself, which would answer all that is sent.
-	if conn.LocalAddr().String() == conn.RemoteAddr().String() {
+	if err == nil && conn.LocalAddr().String() == conn.RemoteAddr().String() {
 		conn.Close()
-		return nil, true
+		return nil, errGone
 	}
-	return conn, false
+	return conn, err
 }
 
-// isThere tells whether who stood with this bid answers within so long. Where the context is over, nobody knows.
+// isThere tells whether who stood with this bid answers within so long, or could not be asked for that long. Where the
+// context is over, nobody knows.
 func isThere(ctx context.Context, bid int, limit time.Duration) bool {
 	line := strconv.Itoa(bid)
-	return askBeacon(ctx, bid, line, limit) == line
+	answer, isAsked := askBeacon(ctx, bid, line, limit)
+	return answer == line || !isAsked
 }

@@ -110,20 +110,43 @@ func TestABeaconIsAskedAgainWhereThatMayHelp(t *testing.T) {
 	}
 }
 
-func TestABeaconIsAskedAgainWhereDescriptorsAreWanting(t *testing.T) {
-	leavesNone(t)
-	beacon, err := newBeacon(0, "")
-	must(t, err)
-	defer beacon.close()
+// wanting has no descriptor be free for this time, and gives what waits until one is.
+func wanting(t *testing.T, length time.Duration) (restore func()) {
+	t.Helper()
 	var limit syscall.Rlimit
 	must(t, syscall.Getrlimit(syscall.RLIMIT_NOFILE, &limit))
 	none, restored := limit, make(chan error)
 	none.Cur = 3
 	must(t, syscall.Setrlimit(syscall.RLIMIT_NOFILE, &none))
-	time.AfterFunc(300*time.Millisecond, func() { restored <- syscall.Setrlimit(syscall.RLIMIT_NOFILE, &limit) })
+	time.AfterFunc(length, func() { restored <- syscall.Setrlimit(syscall.RLIMIT_NOFILE, &limit) })
+	return func() { must(t, <-restored) }
+}
+
+func TestABeaconIsAskedAgainWhereDescriptorsAreWanting(t *testing.T) {
+	leavesNone(t)
+	beacon, err := newBeacon(0, "")
+	must(t, err)
+	defer beacon.close()
+	restore := wanting(t, 300*time.Millisecond)
 	isSeen := isThere(background(t), beacon.bid(), 30*time.Second)
-	must(t, <-restored)
+	restore()
 	same(t, isSeen, true)
+}
+
+func TestABeaconThatCouldNotBeAskedIsNotGone(t *testing.T) {
+	leavesNone(t)
+	beacon, err := newBeacon(0, "")
+	must(t, err)
+	defer beacon.close()
+	restore := wanting(t, 600*time.Millisecond)
+	isSeen := isThere(background(t), beacon.bid(), 200*time.Millisecond)
+	_, isTold := holderOf(background(t), Led{1, Leader{1, beacon.bid()}}, 200*time.Millisecond)
+	restore()
+	same(t, []bool{isSeen, isTold}, []bool{true, false})
+	// Once it may be asked it is seen whether it is there.
+	same(t, isThere(background(t), beacon.bid(), time.Second), true)
+	beacon.close()
+	same(t, isThere(background(t), beacon.bid(), time.Second), false)
 }
 
 func TestAnotherServerIsNoBeacon(t *testing.T) {

@@ -40,8 +40,8 @@ func (l *Lock) Holder(ctx context.Context) (Holder, bool, error) {
 // holderOf gives who leads so, where it holds a lock and answers within so long.
 func holderOf(ctx context.Context, known Led, limit time.Duration) (Holder, bool) {
 	own := strconv.Itoa(known.Leader.Bid)
-	answer := strings.ToValidUTF8(askBeacon(ctx, known.Leader.Bid, "holder "+own, limit), "\uFFFD")
-	words := strings.SplitN(answer, " ", 3)
+	answer, _ := askBeacon(ctx, known.Leader.Bid, "holder "+own, limit)
+	words := strings.SplitN(strings.ToValidUTF8(answer, "\uFFFD"), " ", 3)
 	if len(words) < 3 || words[0] != own {
 		return Holder{}, false
 	}

@@ -37,8 +37,8 @@ type place struct {
 func newPlace(ctx context.Context, bid int, line string, limit time.Duration) *place {
 	ctx, cancel := context.WithTimeout(ctx, limit)
 	defer cancel()
-	conn, _ := dialBeacon(ctx, bid, limit)
-	if conn == nil {
+	conn, err := dialBeacon(ctx, bid, limit)
+	if err != nil {
 		return nil
 	}
 	now := time.Now()

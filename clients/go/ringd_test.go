@@ -398,7 +398,7 @@ func TestWhoWaitsInPythonAndInGoComesNext(t *testing.T) {
 	known := latest(t, ring, 2, 1)
 	until(t, "its line", func() bool {
 		asked := fmt.Sprint("waiters ", known.Leader.Bid)
-		answer := askBeacon(background(t), known.Leader.Bid, asked, time.Second)
+		answer, _ := askBeacon(background(t), known.Leader.Bid, asked, time.Second)
 		return strings.HasPrefix(answer, "waiters 1\n") && strings.HasSuffix(answer, fmt.Sprint(os.Getpid(), " a job in Go"))
 	})
 	same(t, len(ended), 0)
