@@ -62,7 +62,7 @@ type client struct {
 	// milliseconds of the Unix clock, and its place, with what wakes who tells it that.
 	own   int
 	text  string
-	since int
+	since int64
 	place int
 	moved chan struct{}
 }
@@ -199,26 +199,27 @@ func (b *beacon) keep(asks *client, line string) bool {
 	if len(words) < 6 || words[0] != "wait" || words[1] != strconv.Itoa(b.own) || !isLine(words[5]) || len(words[5]) > longestText {
 		return false
 	}
-	told := [3]int{}
+	told := [3]int64{}
 	for place, longest := range [...]int{9, 15, 9} {
 		number, err := strconv.ParseUint(words[2+place], 10, 63)
 		if err != nil || len(words[2+place]) > longest {
 			return false
 		}
-		told[place] = int(number)
+		told[place] = int64(number)
 	}
+	own := int(told[0])
 	b.mutex.Lock()
 	defer b.mutex.Unlock()
-	if b.isOver || told[0] == 0 || len(b.waiters) == mostWaiters {
+	if b.isOver || own == 0 || len(b.waiters) == mostWaiters {
 		return false
 	}
 	for _, known := range b.waiters {
-		if known.own == told[0] {
+		if known.own == own {
 			known.conn.Close()
 		}
 	}
-	asks.own, asks.since = told[0], told[1]
-	asks.text, asks.moved = fmt.Sprintf("%d %d %s", told[0], told[2], words[5]), make(chan struct{}, 1)
+	asks.own, asks.since = own, told[1]
+	asks.text, asks.moved = fmt.Sprintf("%d %d %s", own, told[2], words[5]), make(chan struct{}, 1)
 	b.clients, b.waiters = without(b.clients, asks), append(b.waiters, asks)
 	b.arrange()
 	go b.tellPlaces(asks)

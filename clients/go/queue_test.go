@@ -30,7 +30,7 @@ func call(t *testing.T, beacon *beacon) *caller {
 }
 
 // wait has it wait in line with this bid, since that millisecond.
-func (c *caller) wait(t *testing.T, beacon *beacon, bid, since int, text string) {
+func (c *caller) wait(t *testing.T, beacon *beacon, bid int, since int64, text string) {
 	t.Helper()
 	c.says(t, fmt.Sprintf("wait %d %d %d 7 %s", beacon.bid(), bid, since, text))
 }
@@ -88,7 +88,7 @@ func TestABeaconKeepsWhoWaitsInLine(t *testing.T) {
 	first, second, third, ranked := call(t, beacon), call(t, beacon), call(t, beacon), call(t, beacon)
 	second.wait(t, beacon, 20, 700, "b")
 	second.hears(t, "place 1")
-	third.wait(t, beacon, 30, 900, "")
+	third.wait(t, beacon, 30, 1<<40, "")
 	third.hears(t, "place 2")
 	// It waits for longer, elsewhere.
 	first.wait(t, beacon, 10, 500, "a b")
@@ -147,7 +147,7 @@ func TestWhoWaitsInLineIsNotPushedOut(t *testing.T) {
 	waiters := []*caller{}
 	for place := range make([]struct{}, mostWaiters) {
 		waiter := call(t, beacon)
-		waiter.wait(t, beacon, 5+place, place, "")
+		waiter.wait(t, beacon, 5+place, int64(place), "")
 		waiter.hears(t, fmt.Sprint("place ", 1+place))
 		waiters = append(waiters, waiter)
 	}
