@@ -77,17 +77,18 @@ func (l *Lock) look(ctx context.Context) error {
 	return err
 }
 
-// ask asks who leads: the node behind the one that was asked last, since that may lag, and those behind it, as long as they
-// know no term as great as this lock's. Where one gave no answer it is the next one's turn anyway.
+// ask asks who leads: the node behind the one that was asked last, since that may lag, and as long as there is time those
+// behind it, until one knows a term as great as this lock's. Where one gave no answer it is the next one's turn anyway.
 func (l *Lock) ask(ctx context.Context) (known Led, isKnown bool, err error) {
-	term := l.Term()
+	term, until := l.Term(), time.Now().Add(l.looks.timeout())
 	for left := l.looks.nodes; left > 0; left-- {
 		known, isKnown, err = l.looks.Latest(ctx, l.group, AnyNode)
 		if isNoAnswer(err) {
 			break
 		}
 		l.looks.pass(ctx)
-		if isKnown && known.Term >= term || err != nil && !errors.Is(err, ErrOutOfMemory) {
+		isTold := isKnown && known.Term >= term || err != nil && !errors.Is(err, ErrOutOfMemory)
+		if isTold || time.Now().After(until) {
 			break
 		}
 	}

@@ -182,6 +182,24 @@ func TestNodesThatHaveNotHeardOfTheTermHaveNobodyGiveUp(t *testing.T) {
 	}))
 }
 
+func TestALookAtNodesThatLagIsBounded(t *testing.T) {
+	votes := newVotes()
+	ring, nodes := beside(t, votes.at(1), votes.at(2), votes.at(3), votes.at(4), votes.at(5), votes.at(6), votes.at(7))
+	ring.Timeout = 300 * time.Millisecond
+	lock := lockOf(t, ring, LockOptions{})
+	must(t, lock.Acquire(background(t)))
+	lock.every = 0
+	for _, node := range nodes {
+		node.is(func(string) (string, bool) {
+			time.Sleep(200 * time.Millisecond)
+			return "none", true
+		})
+	}
+	before := time.Now()
+	same(t, holds(t, lock), true)
+	same(t, time.Since(before) < 900*time.Millisecond, true)
+}
+
 func TestALossIsToldForAllLocksWhereANodeIsSilent(t *testing.T) {
 	ring, nodes, _ := elected(t)
 	locks, all := []*Lock{}, groups{votes: map[string]*votes{}}
