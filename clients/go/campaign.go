@@ -284,7 +284,7 @@ func (c *campaign) await(ctx context.Context) (Led, bool, error) {
 	pause := pause{stoodPause}
 	for {
 		known, isKnown, err := c.known(ctx)
-		if isKnown || err != nil || !pause.take(until, c.ring) {
+		if isKnown || err != nil || !pause.takeAndPass(until, c.ring) {
 			return known, isKnown, err
 		}
 	}

@@ -391,6 +391,24 @@ func TestPortsOfOtherNodesAreNotThoseOfAnotherOneWithTheSameBid(t *testing.T) {
 	same(t, len(nodes[1].lines("")), 0)
 }
 
+func TestACampaignSeesThatItLeadsWhereANodeLags(t *testing.T) {
+	votes := newVotes()
+	ring, nodes := beside(t, always("none"), votes.at(2), always("none"))
+	election, err := ring.Campaign(background(t), "red", CampaignOptions{Node: 2, Wait: time.Second})
+	must(t, err)
+	same(t, election, Election{Led{1, Leader{2, votes.bid(1)}}, true})
+	same(t, len(nodes[1].lines("stand")), 1)
+}
+
+func TestAWatchTellsOfALeaderWhereANodeLags(t *testing.T) {
+	ring, _ := beside(t, always("none"), always("term 1 leader 1 4"), always("term 2 leader 1 5"))
+	ctx, cancel := context.WithTimeout(background(t), 5*time.Second)
+	defer cancel()
+	led, err := ring.Watch("red", 1).Next(ctx)
+	must(t, err)
+	same(t, led, Led{2, Leader{1, 5}})
+}
+
 func TestACampaignEndsWithItsContext(t *testing.T) {
 	votes := newVotes()
 	votes.deposed = true

@@ -35,6 +35,15 @@ func (p *pause) take(ctx context.Context, ring *Ring) bool {
 	return true
 }
 
+// takeAndPass does the same behind an answer by which nothing is known yet. Where the session is ended another node is
+// asked next, which may know more.
+func (p *pause) takeAndPass(ctx context.Context, ring *Ring) bool {
+	if p.next >= heldPause && ctx.Err() == nil {
+		ring.pass(ctx)
+	}
+	return p.take(ctx, ring)
+}
+
 // sleep waits so long, or until the context is over.
 func sleep(ctx context.Context, length time.Duration) {
 	timer := time.NewTimer(length)

@@ -28,7 +28,13 @@ func (w *Watch) Next(ctx context.Context) (Led, error) {
 			w.after = known.Term
 			return known, nil
 		}
-		if err == nil && wasWaited || (err == nil || isPassing(err)) && pause.take(ctx, w.ring) {
+		goesOn := false
+		if err == nil {
+			goesOn = wasWaited || pause.takeAndPass(ctx, w.ring)
+		} else {
+			goesOn = isPassing(err) && pause.take(ctx, w.ring)
+		}
+		if goesOn {
 			continue
 		}
 		w.ring.release(ctx)
