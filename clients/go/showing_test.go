@@ -15,7 +15,8 @@ import (
 // A doorTeller tells of `red` as a teller does, and of so many doors of each node, of which so many serve others.
 type doorTeller struct {
 	*teller
-	doors, others, looks int64
+	others, looks atomic.Int64
+	doors         int64
 }
 
 func (d *doorTeller) ServeHTTP(writer http.ResponseWriter, request *http.Request) {
@@ -23,10 +24,10 @@ func (d *doorTeller) ServeHTTP(writer http.ResponseWriter, request *http.Request
 		d.teller.ServeHTTP(writer, request)
 		return
 	}
-	atomic.AddInt64(&d.looks, 1)
+	d.looks.Add(1)
 	told := RingStatus{Nodes: []NodeStatus{}}
 	for place, node := range d.nodes {
-		busy := atomic.LoadInt64(&d.others) + int64(len(node.present()))
+		busy := d.others.Load() + int64(len(node.present()))
 		sessions := SessionsStatus{Busy: busy, Doors: d.doors}
 		told.Nodes = append(told.Nodes, NodeStatus{Node: place + 1, Sessions: sessions})
 	}
@@ -116,7 +117,7 @@ func TestALockThatIsGivenBackSoonIsNeverShown(t *testing.T) {
 	for begin, wanted := range map[string]int{"stand": 6, "tell": 0, "resign": 0} {
 		same(t, len(nodes[0].lines(begin))+len(nodes[1].lines(begin)), wanted)
 	}
-	same(t, atomic.LoadInt64(&told.looks), 0)
+	same(t, told.looks.Load(), 0)
 }
 
 func TestWithoutTheStatusPortNobodyIsTold(t *testing.T) {
@@ -139,7 +140,7 @@ func TestAllLocksAtANodeAreShownInOneDoor(t *testing.T) {
 	locks[3].Resign()
 	until(t, "its end", func() bool { return arePresent(nodes, append(append([]*Lock{}, locks[:3]...), locks[4:]...)) })
 	// One that is given back leaves the session of the others.
-	atomic.StoreInt64(&told.others, 0)
+	told.others.Store(0)
 	must(t, locks[3].Acquire(background(t)))
 	until(t, "all again", func() bool { return arePresent(nodes, locks) })
 }
@@ -158,24 +159,24 @@ func manyShown(t *testing.T) (*Ring, []*node, *doorTeller) {
 
 func TestWhereNoDoorIsFreeALockIsHeldUnshown(t *testing.T) {
 	ring, nodes, votes, told := showing(t, "")
-	atomic.StoreInt64(&told.others, 3)
+	told.others.Store(3)
 	lock := shownOf(t, ring, "red", "a worker")
 	must(t, lock.Acquire(background(t)))
-	until(t, "looks", func() bool { return atomic.LoadInt64(&told.looks) > 3 })
+	until(t, "looks", func() bool { return told.looks.Load() > 3 })
 	same(t, []any{holds(t, lock), len(nodes[0].lines("stand")) + len(nodes[1].lines("stand"))}, []any{true, 1})
 	// Later it is shown, and gives its door back where others come, though not for a moment.
 	for _, others := range []int64{2, 0} {
-		atomic.StoreInt64(&told.others, others)
+		told.others.Store(others)
 		until(t, "that it is shown", func() bool { return isShown(nodes, votes) })
-		looks := atomic.LoadInt64(&told.looks)
-		atomic.StoreInt64(&told.others, 3)
+		looks := told.looks.Load()
+		told.others.Store(3)
 		until(t, "its end", func() bool { return !isShown(nodes, votes) })
-		same(t, atomic.LoadInt64(&told.looks) > looks+1, true)
+		same(t, told.looks.Load() > looks+1, true)
 	}
 	same(t, holds(t, lock), true)
 	// Where no doors are told none is taken.
 	told.doors = 0
-	atomic.StoreInt64(&told.others, 0)
+	told.others.Store(0)
 	time.Sleep(200 * time.Millisecond)
 	same(t, isShown(nodes, votes), false)
 }
