@@ -20,8 +20,8 @@ const (
 	lastTerm = 999_999_999
 	// So long who leads waits for a node that is to retire the others.
 	retireLimit = time.Second
-	// So long is waited where a lock is tried once.
-	tryLimit = 2 * time.Second
+	// So long is waited where a lock is tried once, and for what the status port tells of nodes that are not well.
+	tryLimit, faultsLimit = 2 * time.Second, time.Second
 )
 
 // CampaignOptions are how to campaign. The zero value stands at any node, where no leader is known.
@@ -300,11 +300,13 @@ func (c *campaign) known(ctx context.Context) (Led, bool, error) {
 	return known, isKnown && known.Term > c.how.Gone, err
 }
 
-// faults tells which nodes are not well, as `node 3 full`, where the ring's status port is known and tells.
+// faults tells which nodes are not well, as `node 3 full`, where the ring's status port is known and tells within a second.
 func (c *campaign) faults(ctx context.Context) []string {
 	if c.ring.Status == 0 {
 		return nil
 	}
-	faults, _ := Health(ctx, c.ring.Host, c.ring.Status)
+	limited, cancel := context.WithTimeout(ctx, faultsLimit)
+	defer cancel()
+	faults, _ := Health(limited, c.ring.Host, c.ring.Status)
 	return faults
 }

@@ -2,6 +2,7 @@ package cinoweta
 
 import (
 	"context"
+	"net"
 	"net/http"
 	"strings"
 	"testing"
@@ -186,6 +187,20 @@ func TestWhoIsNotWellIsToldWhereNobodyComesToLead(t *testing.T) {
 		_, err := ring.Campaign(background(t), "red", short(CampaignOptions{}))
 		same(t, as[*NoLeaderError](t, err), "cinoweta: red: no leader in 3 terms above 0"+row.faults)
 	}
+}
+
+func TestAStatusPortThatHangsHoldsNobodyUp(t *testing.T) {
+	votes := newVotes()
+	votes.deposed = true
+	ring, _ := beside(t, votes.answer, votes.answer)
+	listener, err := net.Listen("tcp", address(ownHost, 0))
+	must(t, err)
+	defer listener.Close()
+	ring.Status = listener.Addr().(*net.TCPAddr).Port
+	before := time.Now()
+	_, err = ring.Campaign(background(t), "red", short(CampaignOptions{Terms: 1}))
+	same(t, as[*NoLeaderError](t, err).Faults, []string{})
+	same(t, time.Since(before) < 2*time.Second, true)
 }
 
 func TestWhoMayNotStandFollows(t *testing.T) {
