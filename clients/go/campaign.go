@@ -129,12 +129,12 @@ func (c *campaign) run(ctx context.Context) (Election, error) {
 	known, isKnown, err := c.known(ctx)
 	for c.tried = 0; c.tried < c.how.Terms && !isKnown && err == nil; {
 		c.tried++
-		term := c.least() + c.tried
-		if term > lastTerm {
+		// A greater number may have no sum.
+		if c.least() > lastTerm-c.tried {
 			const text = "cinoweta: %s has no term above %d: use another name, as `cinoweta move --rename` gives it"
 			return Election{}, fmt.Errorf(text, c.group, lastTerm)
 		}
-		if err = c.stand(ctx, term); err == nil {
+		if err = c.stand(ctx, c.least()+c.tried); err == nil {
 			known, isKnown, err = c.await(ctx)
 		}
 	}

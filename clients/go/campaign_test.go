@@ -2,6 +2,7 @@ package cinoweta
 
 import (
 	"context"
+	"math"
 	"net"
 	"net/http"
 	"strings"
@@ -137,8 +138,10 @@ func TestANodeThatHasNothingToRetireIsToldNothing(t *testing.T) {
 
 func TestBehindTheLastTermThereIsNone(t *testing.T) {
 	ring, nodes := beside(t, newVotes().lead(999_999_999, 2, 5).answer, deaf)
-	_, err := ring.Campaign(background(t), "red", CampaignOptions{Gone: 999_999_999, Node: 1})
-	same(t, err, "cinoweta: red has no term above 999999999: use another name, as `cinoweta move --rename` gives it")
+	for _, gone := range []int{999_999_999, math.MaxInt} {
+		_, err := ring.Campaign(background(t), "red", CampaignOptions{Gone: gone, Node: 1})
+		same(t, err, "cinoweta: red has no term above 999999999: use another name, as `cinoweta move --rename` gives it")
+	}
 	same(t, len(nodes[0].lines("stand")), 0)
 }
 
