@@ -65,7 +65,10 @@ func (l *Lock) look(ctx context.Context) error {
 	}
 	l.mutex.Lock()
 	defer l.mutex.Unlock()
-	l.asked = time.Now()
+	if err == nil || ended(ctx) == nil {
+		// One that its context ended is not waited for by others, which may have more time.
+		l.asked = time.Now()
+	}
 	switch {
 	case !l.isHeld:
 		// It was given back meanwhile, and who waits for it anew goes on.

@@ -269,6 +269,24 @@ func TestGoroutinesThatLookAtALockAskOnce(t *testing.T) {
 	nodes[1].is(votes.at(2))
 }
 
+func TestALookThatItsContextEndedKeepsNoOtherOne(t *testing.T) {
+	ring, nodes, votes := elected(t)
+	lock := lockOf(t, ring, LockOptions{})
+	must(t, lock.Acquire(background(t)))
+	time.Sleep(lookEvery)
+	hangs := never(t)
+	nodes[0].is(hangs)
+	nodes[1].is(hangs)
+	ctx, cancel := context.WithTimeout(background(t), 50*time.Millisecond)
+	defer cancel()
+	_, err := lock.IsLost(ctx)
+	is(t, err, context.DeadlineExceeded)
+	votes.lead(2, 2, 5)
+	nodes[0].is(votes.at(1))
+	nodes[1].is(votes.at(2))
+	same(t, holds(t, lock), false)
+}
+
 func TestALookThatItsGiveUpEndsIsNoFault(t *testing.T) {
 	ring, nodes, _ := elected(t)
 	lock := lockOf(t, ring, LockOptions{GiveUp: time.Minute})
