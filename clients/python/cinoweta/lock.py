@@ -72,11 +72,9 @@ class Lock(Locking):
         finally:
             self.resign()
 
-    def end(self, sign: Beacon | Presence) -> bool:
-        was_held = super().end(sign)
-        if was_held and isinstance(sign, Presence):
+    def see_off(self, sign: Beacon | Presence) -> None:
+        if isinstance(sign, Presence):
             sign.await_end()
-        return was_held
 
     def __enter__(self) -> "Lock":
         self.acquire()

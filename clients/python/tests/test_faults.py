@@ -18,7 +18,7 @@ from cinoweta.looks import Looks
 from cinoweta.process import run
 from cinoweta.waiting import HANDED, is_there
 
-from .lines import Node, Votes
+from .lines import Groups, Node, Votes
 from .test_ring import Beside, deaf
 
 PACKAGE = os.path.dirname(os.path.dirname(__file__))
@@ -322,6 +322,18 @@ class LossTest(BesideLock):
             self.assertEqual((other.is_lost(), told), (False, [lock]))
         with self.assertRaises(ValueError):
             Lock(ring, "red", give_up=0.0)
+
+    def test_a_question_for_another_lock_keeps_none_from_giving_up(self) -> None:
+        ring, nodes = self.ring(*[Groups()] * 2)
+        red, blue = [self.lock(ring, name, give_up=1.0) for name in ("red", "blue")]
+        for lock in (red, blue):
+            lock.acquire()
+            lock.told, lock.asked = lock.told - 5.0, lock.asked - 5.0
+        nodes[0].answer = nodes[1].answer = lambda _line: time.sleep(30.0)
+        thread, _ = self.fault_of(red.is_lost)
+        self.until(lambda: len(nodes[0].lines) + len(nodes[1].lines) > 0 and nodes[0].lines[-1] == "latest red")
+        self.assertTrue(blue.is_lost())
+        thread.join(5.0)
 
     def test_the_command_is_ended_where_it_gives_up(self) -> None:
         ring, nodes = self.votes_ring()

@@ -187,6 +187,16 @@ class KeeperTest(Beside):
         thread.join(10.0)
         self.assertEqual(faults, [f"{OTHER}:{self.ring_.first + 1}: timed out"])
 
+    def test_all_who_are_cut_off_give_up_in_time(self) -> None:
+        told: list[Lock] = []
+        locks = self.hold(*LOCKS[:5], give_up=1.0, on_lost=told.append)
+        self.nodes[0].answer = self.nodes[1].answer = lambda _line: time.sleep(30.0)
+        before = time.monotonic()
+        while len(told) < 5:
+            self.assertLess(time.monotonic() - before, 3.0, told)
+            time.sleep(0.02)
+        self.assertEqual({*told}, {*locks})
+
     def test_who_waits_for_a_slow_node_leaves_at_once(self) -> None:
         first, = self.hold("red")
         ends, cancel = threading.Event(), threading.Event()
