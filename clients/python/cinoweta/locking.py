@@ -339,7 +339,10 @@ class Locking:
         if self.on_lost is not None:
             try:
                 self.on_lost(self)
-            except Exception:
+            except BaseException as fault:
+                # What would end the process ends another thread alone, and that unsaid: it looks for the other locks too.
+                if not isinstance(fault, Exception) and threading.current_thread() is threading.main_thread():
+                    raise
                 LOG.exception("%s: on_lost", self.group)
 
     def resign(self, above: int = 0) -> None:

@@ -23,19 +23,20 @@ class Looks:
     def __init__(self, ring: "Asking") -> None:
         self.ring, self.asks, self.gate = ring, ring.within(AT_MOST), ring.new_gate()
         self.held: dict["Locking", None] = {}
-        self.mutex, self.is_going_on = threading.Lock(), False
+        # An event loop may begin a task at once, within it.
+        self.mutex, self.is_going_on = threading.RLock(), False
         forks.register(self)
 
     def forget(self) -> None:
-        self.held, self.mutex, self.is_going_on = {}, threading.Lock(), False
+        self.held, self.mutex, self.is_going_on = {}, threading.RLock(), False
 
     def add(self, lock: "Locking") -> None:
         with self.mutex:
             self.held[lock] = None
-            begins = lock.on_lost is not None and not self.is_going_on
-            self.is_going_on = self.is_going_on or begins
-        if begins:
-            self.ring.begin(self.go_on())
+            if lock.on_lost is not None and not self.is_going_on:
+                # Where the system gives no thread the next lock tries again.
+                self.ring.begin(self.go_on())
+                self.is_going_on = True
 
     def remove(self, lock: "Locking") -> None:
         with self.mutex:

@@ -228,6 +228,35 @@ class LossTest(BesideLock):
             self.votes.leaders[2] = (2, 9)
             self.until(lambda: lock.is_lost() and not ring.looks.is_going_on)
 
+    def test_who_ends_its_thread_where_it_is_told_keeps_no_other_lock_from_it(self) -> None:
+        groups, told = Groups(), list[Lock]()
+        ring, _ = self.ring(groups, groups)
+        with mock.patch("cinoweta.looks.EVERY", 0.05), self.assertLogs("cinoweta", "ERROR") as logs:
+            for name, on_lost in ("red", lambda _lock: sys.exit(1)), ("blue", told.append):
+                self.lock(ring, name, on_lost=on_lost).acquire()
+            groups.votes["red"].leaders[2] = (2, 9)
+            self.until(lambda: logs.records)
+            groups.votes["blue"].leaders[2] = (2, 9)
+            self.until(lambda: told)
+        self.assertIn("red: on_lost", logs.output[0])
+
+    def test_a_lock_that_got_no_thread_leaves_the_next_one_to_try(self) -> None:
+        ring, _ = self.votes_ring()
+        told: list[Lock] = []
+        lock = self.lock(ring, on_lost=told.append)
+
+        def begin(steps: object) -> None:
+            steps.close()
+            raise RuntimeError("can't start new thread")
+
+        with mock.patch("cinoweta.looks.EVERY", 0.05):
+            with mock.patch.object(ring, "begin", begin), self.assertRaises(RuntimeError):
+                lock.acquire()
+            self.assertEqual((lock.is_lost(), lock.sign, ring.looks.held), (True, None, {}))
+            lock.acquire()
+            self.votes.leaders[9] = (2, 9)
+            self.until(lambda: told)
+
     def test_a_loss_is_told_though_another_question_had_a_fault(self) -> None:
         votes = {"red": Votes(), "blue": Votes()}
         ring, nodes = self.ring(*[lambda line: votes[line.split()[1]](line)] * 2)
