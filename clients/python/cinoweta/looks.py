@@ -5,7 +5,7 @@ import time
 from typing import TYPE_CHECKING
 
 from . import forks
-from .errors import CinowetaError, NoAnswer, OutOfMemory
+from .errors import NoAnswer, OutOfMemory
 
 if TYPE_CHECKING:
     from .asking import Asking
@@ -22,6 +22,7 @@ class Looks:
 
     def __init__(self, ring: "Asking") -> None:
         self.ring, self.asks, self.gate = ring, ring.within(AT_MOST), ring.new_gate()
+        # Who was asked for longest ago first.
         self.held: dict["Locking", None] = {}
         # An event loop may begin a task at once, within it.
         self.mutex, self.is_going_on = threading.RLock(), False
@@ -60,8 +61,8 @@ class Looks:
 
     async def look(self, *first: "Locking") -> None:
         """Looks at these, and then at all others as far as there is time; not at one that was looked at within a second.
-        Each one gives up whose time is over, asked for or not."""
-        lost: list["Locking"] = []
+        Each one gives up whose time is over, asked for or not. The first fault is raised behind all of that."""
+        lost, faults = list["Locking"](), list[Exception]()
         try:
             async with self.gate:
                 begun = time.monotonic()
@@ -71,13 +72,17 @@ class Looks:
                 stale = [lock for lock in held if begun - lock.asked >= EVERY]
                 try:
                     for lock in stale:
-                        if time.monotonic() <= self.asks.deadline and await self.is_lost(lock, stale):
-                            lost.append(lock)
+                        try:
+                            if time.monotonic() <= self.asks.deadline and await self.is_lost(lock, stale):
+                                lost.append(lock)
+                        except Exception as fault:
+                            faults.append(fault)
                 finally:
                     self.asks.close()
                     lost += [lock for lock in held if lock.gives_up()]
+            for fault in faults:
+                raise fault
         finally:
-            # Also where the question for another one ended with a fault.
             for lock in lost:
                 lock.tell_loss()
 
@@ -93,16 +98,23 @@ class Looks:
             for other in others:
                 other.asked = time.monotonic()
             return False
-        except CinowetaError:
-            # What is no answer tells of no term. The others are looked at before it is asked for again.
-            lock.asked = time.monotonic()
+        except Exception:
+            # What is no answer tells of no term.
+            self.put_behind(lock)
             if lock.gives_up():
                 return True
             raise
-        lock.asked = time.monotonic()
+        self.put_behind(lock)
         if known is None or known.term < lock.led:
             # It has not heard of this lock's term yet: another node may know more.
             self.asks.pass_by()
             return False
         lock.told = begun
         return lock.ends_below(known.term)
+
+    def put_behind(self, lock: "Locking") -> None:
+        """Has all others be asked for before it is so again."""
+        lock.asked = time.monotonic()
+        with self.mutex:
+            if lock in self.held:
+                self.held[lock] = self.held.pop(lock)

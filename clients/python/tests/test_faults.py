@@ -327,6 +327,34 @@ class LossTest(BesideLock):
         self.assertEqual([lock.is_lost() for lock in locks], [False] * 20)
         self.assertLess(time.monotonic() - before, 1.6)
 
+    def test_locks_for_which_one_look_has_no_time_are_looked_at_in_turn(self) -> None:
+        groups, names = Groups(), ["red", "blue", "green", "grey", "pink", "teal"]
+        ring, nodes = self.ring(groups, groups)
+        with mock.patch("cinoweta.looks.EVERY", 0.1), mock.patch("cinoweta.looks.AT_MOST", 0.2):
+            for name in names:
+                self.lock(ring, name, on_lost=lambda _lock: None).acquire()
+            for node in nodes:
+                node.answer = lambda line: time.sleep(0.06) or groups(line)
+                node.lines.clear()
+            self.until(lambda: {f"latest {name}" for name in names} <= {*nodes[0].lines, *nodes[1].lines})
+            before = {lock: lock.told for lock in self.held}
+            self.until(lambda: all(lock.told > before[lock] for lock in self.held))
+
+    def test_a_question_with_a_fault_keeps_no_other_lock_from_its_own(self) -> None:
+        groups, told = Groups(), list[Lock]()
+        ring, nodes = self.ring(groups, groups)
+        with mock.patch("cinoweta.looks.EVERY", 0.05), self.assertLogs("cinoweta", "WARNING"):
+            for name in "red", "blue":
+                self.lock(ring, name, on_lost=told.append).acquire()
+            ask = ring.looks.asks.do_latest
+
+            async def falters(group: str) -> object:
+                return 1 / 0 if group == "red" else await ask(group)
+
+            with mock.patch.object(ring.looks.asks, "do_latest", falters):
+                groups.votes["blue"].leaders[2] = (2, 9)
+                self.until(lambda: told)
+
     def test_who_is_cut_off_gives_up(self) -> None:
         ring, nodes = self.votes_ring(timeout=0.2)
         with mock.patch("cinoweta.locking.EVERY", 0.05), mock.patch("cinoweta.looks.EVERY", 0.05):
