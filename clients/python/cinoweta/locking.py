@@ -87,8 +87,8 @@ class Locking:
         self.shown: Shown | None = None
         self.is_held, self.is_child = False, False
         # The term in which it leads or led; that of the last holder that is gone, and the number that its own is above;
-        # when the ring was asked, and when it was asked a question that it answered.
-        self.led, self.gone, self.above, self.asked, self.told = 0, 0, 0, 0.0, 0.0
+        # when the ring was asked, and when it was asked a question that it answered; which node was asked last.
+        self.led, self.gone, self.above, self.asked, self.told, self.node = 0, 0, 0, 0.0, 0.0, 0
         # Why it was lost last.
         self.why = ""
         forks.register(self)

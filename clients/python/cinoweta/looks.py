@@ -9,10 +9,12 @@ from .errors import NoAnswer, OutOfMemory
 
 if TYPE_CHECKING:
     from .asking import Asking
+    from .kinds import Led
     from .locking import Locking
 
-# Each lock is looked at so often, and all together for so long at most, in seconds.
-EVERY, AT_MOST = 1.0, 1.0
+# Each lock is looked at so often, and all together for so long at most, in seconds; one node is waited for so long, so
+# that another one may answer.
+EVERY, AT_MOST, OF_ONE = 1.0, 1.0, 0.7
 LOG = logging.getLogger("cinoweta")
 
 
@@ -21,7 +23,7 @@ class Looks:
     other question."""
 
     def __init__(self, ring: "Asking") -> None:
-        self.ring, self.asks, self.gate = ring, ring.within(AT_MOST), ring.new_gate()
+        self.ring, self.asks, self.gate = ring, ring.within(OF_ONE), ring.new_gate()
         # Who was asked for longest ago first.
         self.held: dict["Locking", None] = {}
         # An event loop may begin a task at once, within it.
@@ -70,6 +72,9 @@ class Looks:
                 with self.mutex:
                     held = [*dict.fromkeys([*first, *self.held])]
                 stale = [lock for lock in held if begun - lock.asked >= EVERY]
+                if stale:
+                    # Of each lock each node is asked in turn: one that lags behind tells of no loss.
+                    self.asks.place = stale[0].node % self.asks.nodes + 1
                 try:
                     for lock in stale:
                         try:
@@ -80,8 +85,8 @@ class Looks:
                 finally:
                     self.asks.close()
                     lost += [lock for lock in held if lock.gives_up()]
-            for fault in faults:
-                raise fault
+            if faults:
+                raise faults[0]
         finally:
             for lock in lost:
                 lock.tell_loss()
@@ -92,8 +97,9 @@ class Looks:
         begun = time.monotonic()
         if begun - lock.asked < EVERY:
             return False
+        lock.node = self.asks.place
         try:
-            known = await self.asks.do_latest(lock.group)
+            known = await self.latest(lock.group)
         except (NoAnswer, OutOfMemory):
             for other in others:
                 other.asked = time.monotonic()
@@ -106,11 +112,17 @@ class Looks:
             raise
         self.put_behind(lock)
         if known is None or known.term < lock.led:
-            # It has not heard of this lock's term yet: another node may know more.
-            self.asks.pass_by()
+            # It has not heard of this lock's term yet.
             return False
         lock.told = begun
         return lock.ends_below(known.term)
+
+    async def latest(self, group: str) -> "Led | None":
+        """What a node knows, or the next one, where that does not answer."""
+        try:
+            return await self.asks.do_latest(group)
+        except NoAnswer:
+            return await self.asks.do_latest(group)
 
     def put_behind(self, lock: "Locking") -> None:
         """Has all others be asked for before it is so again."""

@@ -292,11 +292,53 @@ class LossTest(BesideLock):
             lock.acquire()
             self.assertFalse(lock.is_lost())
             told = lock.told
-            nodes[0].answer = lambda _line: "none"
+            nodes[1].answer = lambda _line: "none"
             self.votes.leaders[2] = (2, 9)
             self.assertEqual((lock.is_lost(), lock.told), (False, told))
             # Another one does.
             self.assertTrue(lock.is_lost())
+
+    def test_each_node_is_asked_in_turn(self) -> None:
+        # One lags behind, or finds no memory to answer.
+        for late, answer in ((0, "term 1 leader 1 {}"), (1, "term 1 leader 1 {}"), (0, "no 8 memory"), (1, "no 8 memory")):
+            self.votes = Votes()
+            ring, nodes = self.votes_ring()
+            lock = self.lock(ring)
+            with mock.patch("cinoweta.locking.EVERY", 0.0), mock.patch("cinoweta.looks.EVERY", 0.0):
+                lock.acquire()
+                told = answer.format(self.votes.stood[1])
+                nodes[late].answer = lambda _line, told=told: told
+                self.votes.leaders[2] = (2, 9)
+                self.assertIn(True, [lock.is_lost() for _ in range(3)], (late, answer))
+
+    def test_each_node_is_asked_in_turn_for_each_lock(self) -> None:
+        groups = Groups()
+        ring, nodes = self.ring(groups, groups)
+        red, blue = [self.lock(ring, name) for name in ("red", "blue")]
+        for lock in (red, blue):
+            lock.acquire()
+        nodes[0].answer = {line: groups(line) for line in ("latest red", "latest blue")}.get
+        groups.votes["red"].leaders[2] = (2, 9)
+        # Two threads would look in turn so, half a second apart.
+        told: list[Lock] = []
+        for lock in (red, blue) * 3:
+            lock.asked = 0.0
+            told.extend([lock] * lock.is_lost())
+        self.assertEqual({*told}, {red})
+
+    def test_a_node_that_does_not_answer_keeps_no_look_from_another_one(self) -> None:
+        for silent in (0, 1):
+            self.votes = Votes()
+            ring, nodes = self.votes_ring()
+            lock = self.lock(ring)
+            with mock.patch("cinoweta.locking.EVERY", 0.0), mock.patch("cinoweta.looks.EVERY", 0.0):
+                lock.acquire()
+                nodes[silent].answer = lambda _line: time.sleep(30.0)
+                for _ in range(3):
+                    told = lock.told
+                    self.assertFalse(lock.is_lost())
+                    self.assertGreater(lock.told, told)
+            lock.resign()
 
     def test_what_is_resigned_is_looked_at_no_more(self) -> None:
         ring, _ = self.votes_ring()
