@@ -58,6 +58,19 @@ class Stop:
                 raise TimeoutError("timed out")
 
 
+def connect(host: str, port: int, seconds: float) -> socket.socket:
+    """A connection to who listens there. `OSError` where nobody does."""
+    connection = socket.create_connection((host, port), seconds)
+    try:
+        # Where nobody listens, the system may join a connection to itself, which would answer all that is sent.
+        if connection.getsockname() == connection.getpeername():
+            raise ConnectionRefusedError("nobody listens")
+    except OSError:
+        connection.close()
+        raise
+    return connection
+
+
 def is_readable(connection: socket.socket, seconds: float) -> bool:
     if not hasattr(select, "poll"):
         return bool(select.select([connection], [], [], seconds)[0])
@@ -89,14 +102,7 @@ class BlockingLink:
 
     def __init__(self, port: int, seconds: float, stop: Stop) -> None:
         self.stop, self.lines = stop, Lines()
-        self.connection = socket.create_connection((OWN, port), max(0.001, seconds))
-        try:
-            # Where nobody listens, the system may join a connection to itself, which would answer all that is sent.
-            if self.connection.getsockname() == self.connection.getpeername():
-                raise ConnectionRefusedError("nobody listens")
-        except OSError:
-            self.connection.close()
-            raise
+        self.connection = connect(OWN, port, max(0.001, seconds))
 
     async def send(self, text: bytes) -> None:
         self.connection.sendall(text)

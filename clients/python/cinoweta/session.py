@@ -5,7 +5,7 @@ import threading
 import time
 
 from . import forks
-from .link import Stop
+from .link import Stop, connect
 
 # No answer of a node is as long, in bytes.
 LONGEST = 256
@@ -18,7 +18,7 @@ class Session:
     def __init__(self, host: str, port: int, seconds: float) -> None:
         self.port = port
         self.process, self.used, self.over = os.getpid(), time.monotonic(), threading.Event()
-        self.connection = socket.create_connection((host, port), seconds)
+        self.connection = connect(host, port, seconds)
         self.connection.setsockopt(socket.IPPROTO_TCP, socket.TCP_NODELAY, 1)
 
     def ask(self, line: str, seconds: float, stop: Stop = Stop()) -> str:

@@ -3,6 +3,7 @@ import contextlib
 import io
 import json
 import os
+import socket
 import threading
 import time
 import unittest
@@ -128,6 +129,19 @@ class RingTest(Beside):
             time.sleep(0.01)
         self.assertFalse(kept.is_usable())
         self.assertIsNone(ring.latest("red"))
+
+    def test_a_session_that_the_system_joined_to_itself_is_none(self) -> None:
+        joined: list[socket.socket] = []
+
+        def join(*_words: object) -> socket.socket:
+            joined.append(socket.socket())
+            joined[-1].bind(("127.0.0.1", 0))
+            joined[-1].connect(joined[-1].getsockname())
+            return joined[-1]
+
+        with mock.patch("socket.create_connection", join), self.assertRaisesRegex(NoAnswer, "7101: nobody listens"):
+            Ring(7101, 7103, timeout=0.2).latest("red", 1)
+        self.assertEqual({connection.fileno() for connection in joined}, {-1})
 
     def test_answers_that_are_none(self) -> None:
         for answer in ("stood", "leader 1 x", "HTTP/1.1 400", "term 1 leader 1", ""):
