@@ -7,6 +7,8 @@
 """
 import asyncio
 import contextlib
+import os
+import socket
 import threading
 import time
 from collections.abc import AsyncIterator, Callable, Coroutine
@@ -40,7 +42,7 @@ class Stream:
     """A connection, over which lines go either way."""
 
     def __init__(self, reader: asyncio.StreamReader, writer: asyncio.StreamWriter, port: int) -> None:
-        self.reader, self.writer, self.port, self.lines = reader, writer, port, Lines()
+        self.reader, self.writer, self.port, self.lines, self.process = reader, writer, port, Lines(), os.getpid()
 
     @classmethod
     async def open(cls, host: str, port: int, seconds: float) -> "Stream":
@@ -72,6 +74,10 @@ class Stream:
         return told.decode("ascii", "replace")
 
     def close(self) -> None:
+        if self.process == os.getpid():
+            # It ends though a process that was forked has the connection too.
+            with contextlib.suppress(OSError):
+                self.writer.get_extra_info("socket").shutdown(socket.SHUT_RDWR)
         # A loop that is over has closed it.
         with contextlib.suppress(RuntimeError):
             self.writer.close()

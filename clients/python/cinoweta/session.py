@@ -1,4 +1,5 @@
 """One session with a node."""
+import contextlib
 import os
 import socket
 import threading
@@ -51,11 +52,14 @@ class Session:
         return self.connection.fileno() >= 0 and self.process == os.getpid()
 
     def close(self) -> None:
-        """Ends the session, which gives the node's door back."""
-        self.connection.close()
-        # In a process that was forked nobody waits for it, and a thread of the parent may have been at it.
+        """Ends the session, which gives the node's door back. In a process that was forked it goes on: it is the parent's."""
+        # There nobody waits for it, and a thread of the parent may have been at it.
         if self.process == os.getpid():
+            # It ends though such a process has the connection too.
+            with contextlib.suppress(OSError):
+                self.connection.shutdown(socket.SHUT_RDWR)
             self.over.set()
+        self.connection.close()
 
 
 class Teller:

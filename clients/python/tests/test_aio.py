@@ -2,6 +2,7 @@
 import asyncio
 import json
 import os
+import signal
 import threading
 import time
 import unittest
@@ -98,6 +99,19 @@ class AioTest(unittest.IsolatedAsyncioTestCase, BesideStatus):
         self.assertIsNone(await task)
         self.assertEqual(nodes[0].lines, ["latest red"])
         await self.until(lambda: ring.session is None)
+
+    async def test_a_child_keeps_no_session_of_its_parent_open(self) -> None:
+        ring, nodes = self.ring()
+        await ring.stand("red", 1, 5)
+        child = os.fork()
+        if child == 0:
+            time.sleep(30.0)
+            os._exit(0)
+        self.addCleanup(os.waitpid, child, 0)
+        self.addCleanup(os.kill, child, signal.SIGKILL)
+        self.assertEqual(len(nodes[0].present), 1)
+        ring.close()
+        await self.until(lambda: not nodes[0].present)
 
     async def test_a_session_is_ended_once_nothing_is_asked_over_it(self) -> None:
         ring, _ = self.ring()

@@ -187,6 +187,19 @@ class ForkTest(BesideLock):
         self.assertFalse(is_there(bid, 3.0))
         self.assertLess(time.monotonic() - before, 1.0)
 
+    def test_a_child_keeps_no_session_of_its_parent_open(self) -> None:
+        ring, nodes = self.votes_ring()
+        ring.stand("red", 1, 5)
+        self.assertEqual(len(nodes[0].present), 1)
+        child = os.fork()
+        if child == 0:
+            time.sleep(30.0)
+            os._exit(0)
+        self.addCleanup(os.waitpid, child, 0)
+        self.addCleanup(os.kill, child, signal.SIGKILL)
+        ring.close()
+        self.until(lambda: not nodes[0].present)
+
     def test_what_another_thread_held_is_free_in_a_child(self) -> None:
         ring, nodes = self.votes_ring()
         nodes[0].answer = lambda line: time.sleep(1.0) or self.votes(line)
