@@ -21,6 +21,8 @@ from .lines import Node, Votes, in_a_child
 from .test_ring import Beside, deaf
 
 PACKAGE = os.path.dirname(os.path.dirname(__file__))
+# What a shell does for eight seconds, and heeds signals.
+LOOP = "for _ in $(seq 80); do sleep 0.1; done"
 
 
 class Outage:
@@ -354,6 +356,43 @@ class ProcessTest(unittest.TestCase):
         told = subprocess.run([sys.executable, "-c", code], cwd=PACKAGE, text=True, preexec_fn=ignore,
                               capture_output=True, timeout=30)
         self.assertEqual((told.returncode, told.stdout), (0, "7\n"), told.stderr)
+
+    def begin(self, script: str, is_lost: str = "False", grace: float = 1.0, **words: object) -> "subprocess.Popen[str]":
+        """A process that runs this script of a shell, and prints its status behind what that prints."""
+        code = f"from cinoweta.process import run; print(run(['sh', '-c', {script!r}], {{}}, lambda: {is_lost}, {grace}))"
+
+        def heed() -> None:
+            # Whatever the tests were begun by.
+            for number in (signal.SIGINT, signal.SIGQUIT):
+                signal.signal(number, signal.SIG_DFL)
+
+        process = subprocess.Popen([sys.executable, "-c", code], cwd=PACKAGE, text=True, stdout=subprocess.PIPE,
+                                   **{"stdin": subprocess.DEVNULL, "preexec_fn": heed, **words})
+        self.addCleanup(process.stdout.close)
+        self.addCleanup(process.wait)
+        self.addCleanup(process.kill)
+        return process
+
+    def test_signals_are_handed_on(self) -> None:
+        for name in ("TERM", "HUP", "USR1", "USR2", "QUIT", "INT"):
+            process = self.begin(f"trap 'echo ends; exit 4' {name}; echo in; {LOOP}")
+            self.assertEqual(process.stdout.readline(), "in\n")
+            process.send_signal(getattr(signal, f"SIG{name}"))
+            self.assertEqual((process.stdout.read(), process.wait(10)), ("ends\n4\n", 0), name)
+
+    def test_an_exit_status_is_told_though_ends_of_children_are_ignored(self) -> None:
+        process = self.begin("exit 7", preexec_fn=lambda: signal.signal(signal.SIGCHLD, signal.SIG_IGN))
+        self.assertEqual((process.stdout.read(), process.wait(10)), ("7\n", 0))
+
+    def test_a_signal_within_the_grace_keeps_no_command_from_its_end(self) -> None:
+        process = self.begin(f"trap '' TERM; echo $$; {LOOP}", "1 / 0", stderr=subprocess.DEVNULL)
+        command = int(process.stdout.readline())
+        time.sleep(1.5)
+        for _ in range(2):
+            process.terminate()
+        self.assertEqual(process.wait(10), 1)
+        with self.assertRaises(ProcessLookupError):
+            os.kill(command, 0)
 
 
 if __name__ == "__main__":
