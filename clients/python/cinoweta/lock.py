@@ -66,7 +66,8 @@ class Lock(Locking):
 
     def run(self, command: list[str], grace: float) -> int | None:
         """Runs the command while this process leads: its exit status, or None where the lock was lost, and it was sent
-        TERM, and after so many seconds KILL. Who waits is told of the end."""
+        TERM, and after so many seconds KILL. Who waits is told of the end. Where standard input is no terminal it has a
+        session of its own; behind a loss, or a signal that was handed on, all that it began has to have ended, too."""
         try:
             names = {"CINOWETA_GROUP": self.group, "CINOWETA_TERM": str(self.term)}
             return run(command, names, self.is_lost, grace)

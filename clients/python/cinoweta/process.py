@@ -1,45 +1,78 @@
 """A command that runs as long as it may."""
+import contextlib
 import os
 import signal
 import subprocess
+import time
 from collections.abc import Callable
 
-# How often is asked whether it still may, in seconds.
-EVERY = 1.0
+# How often is asked whether it still may, and how often whether its group has ended, in seconds.
+EVERY, SOON = 1.0, 0.02
 # What a terminal sends goes to the command anyway. This, and more, is handed on where it is sent to this process.
 OF_A_TERMINAL = [getattr(signal, name) for name in ("SIGINT", "SIGQUIT") if hasattr(signal, name)]
 HANDED_ON = [getattr(signal, name) for name in ("SIGTERM", "SIGHUP", "SIGUSR1", "SIGUSR2") if hasattr(signal, name)]
+# What asks for no end. Windows has no KILL: its TERM is one.
+OF_NO_END = [getattr(signal, name) for name in ("SIGUSR1", "SIGUSR2") if hasattr(signal, name)]
+KILL = getattr(signal, "SIGKILL", signal.SIGTERM)
 
 
 class Running:
-    """A command from before it is begun until it has ended."""
+    """A command from before it is begun until it has ended. Where standard input is no terminal it has a session of its
+    own, and so a group, with what it begins."""
 
     def __init__(self) -> None:
         self.process: "subprocess.Popen[bytes] | None" = None
-        self.has_terminal, self.early = os.isatty(0), list[int]()
+        self.has_group, self.early = hasattr(os, "killpg") and not os.isatty(0), list[int]()
+        # Whether it was asked to end.
+        self.is_to_end = False
 
     def begin(self, command: list[str], names: dict[str, str]) -> "subprocess.Popen[bytes]":
-        self.process = process = subprocess.Popen(command, env={**os.environ, **names})
+        self.process = process = subprocess.Popen(command, env={**os.environ, **names}, start_new_session=self.has_group)
         for number in self.early:
-            process.send_signal(number)
+            self.send(process, number)
         return process
 
     def hand_on(self, number: int, _frame: object) -> None:
+        self.is_to_end = self.is_to_end or number not in OF_NO_END
         if self.process is None:
             self.early.append(number)
-        elif not self.has_terminal or number not in OF_A_TERMINAL:
-            self.process.send_signal(number)
+        elif self.has_group or number not in OF_A_TERMINAL:
+            self.send(self.process, number)
+
+    def send(self, process: "subprocess.Popen[bytes]", number: int) -> None:
+        """Sends it to all of its group, where it has one."""
+        if not self.has_group:
+            process.send_signal(number)
+            return
+        with contextlib.suppress(ProcessLookupError):
+            os.killpg(process.pid, number)
 
     def end(self, grace: float) -> None:
-        """Ends it, if it was begun and has not ended: by TERM, and after so many seconds by KILL."""
-        if self.process is None or self.process.poll() is not None:
+        """Ends it, where it was begun and goes on: by TERM, and after so many seconds by KILL. It goes on as long as its
+        group does, if it was asked to end; what it left behind at an end of its own is left."""
+        process = self.process
+        if process is None or process.returncode is not None and not self.is_to_end:
             return
-        self.process.terminate()
+        until = time.monotonic() + grace
+        if process.returncode is None:
+            self.send(process, signal.SIGTERM)
+        with contextlib.suppress(subprocess.TimeoutExpired):
+            process.wait(grace)
+        while self.is_there(process) and time.monotonic() < until:
+            time.sleep(SOON)
+        if self.is_there(process):
+            self.send(process, KILL)
+        process.wait()
+
+    def is_there(self, process: "subprocess.Popen[bytes]") -> bool:
+        """Whether it has not ended, or any of its group, where it has one."""
+        if not self.has_group:
+            return process.poll() is None
         try:
-            self.process.wait(grace)
-        except subprocess.TimeoutExpired:
-            self.process.kill()
-            self.process.wait()
+            os.killpg(process.pid, 0)
+        except OSError:
+            return False
+        return True
 
 
 def run(command: list[str], names: dict[str, str], is_lost: Callable[[], bool], grace: float) -> int | None:

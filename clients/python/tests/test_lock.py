@@ -2,6 +2,7 @@
 import contextlib
 import io
 import os
+import pty
 import signal
 import socket
 import subprocess
@@ -344,6 +345,22 @@ class BeaconTest(unittest.TestCase):
         self.assertTrue(is_there(bid, 5.0))
 
 
+def sleeps(seconds: str) -> list[int]:
+    """The processes that sleep so long."""
+    found = []
+    for process in filter(str.isdecimal, os.listdir("/proc")):
+        with contextlib.suppress(OSError), open(f"/proc/{process}/cmdline", "rb") as file:
+            found.extend([int(process)] * (file.read() == f"sleep\0{seconds}\0".encode()))
+    return found
+
+
+def end_all(processes: list[int]) -> int:
+    """Ends these, and tells how many they are."""
+    for process in processes:
+        os.kill(process, signal.SIGKILL)
+    return len(processes)
+
+
 class ProcessTest(unittest.TestCase):
     def test_a_signal_that_is_ignored_is_ignored_by_the_command(self) -> None:
         command = ["sh", "-c", "kill -HUP $PPID; kill -INT $PPID; sleep 0.2; kill -HUP $$; kill -INT $$; exit 7"]
@@ -367,7 +384,7 @@ class ProcessTest(unittest.TestCase):
                 signal.signal(number, signal.SIG_DFL)
 
         process = subprocess.Popen([sys.executable, "-c", code], cwd=PACKAGE, text=True, stdout=subprocess.PIPE,
-                                   **{"stdin": subprocess.DEVNULL, "preexec_fn": heed, **words})
+                                   **{"stdin": subprocess.DEVNULL, "stderr": subprocess.DEVNULL, "preexec_fn": heed, **words})
         self.addCleanup(process.stdout.close)
         self.addCleanup(process.wait)
         self.addCleanup(process.kill)
@@ -380,12 +397,48 @@ class ProcessTest(unittest.TestCase):
             process.send_signal(getattr(signal, f"SIG{name}"))
             self.assertEqual((process.stdout.read(), process.wait(10)), ("ends\n4\n", 0), name)
 
+    def test_what_the_command_began_is_ended_with_it(self) -> None:
+        seconds = f"600.{os.getpid()}"
+        process = self.begin(f"echo in; sleep {seconds} > /dev/null; true")
+        self.assertEqual(process.stdout.readline(), "in\n")
+        time.sleep(0.2)
+        self.assertEqual(len(sleeps(seconds)), 1)
+        process.terminate()
+        self.assertEqual((process.stdout.read(), process.wait(10)), ("143\n", 0))
+        self.assertEqual(end_all(sleeps(seconds)), 0)
+        # Behind a loss, too, and where it does not heed.
+        process = self.begin(f"(trap '' TERM; exec sleep {seconds} > /dev/null) & wait", "True")
+        self.assertEqual((process.wait(10), process.stdout.read()), (0, "None\n"))
+        self.assertEqual(end_all(sleeps(seconds)), 0)
+
+    def test_what_a_command_left_behind_goes_on(self) -> None:
+        seconds = f"601.{os.getpid()}"
+        process = self.begin(f"trap '' USR1; sleep {seconds} > /dev/null & sleep 0.2; kill -USR1 $PPID; sleep 0.2; exit 3")
+        self.assertEqual((process.stdout.read(), process.wait(10)), ("3\n", 0))
+        self.assertEqual(end_all(sleeps(seconds)), 1)
+
+    def test_a_terminal_has_one_group(self) -> None:
+        own, other = pty.openpty()
+        self.addCleanup(os.close, own)
+        process = self.begin(f"trap 'exit 9' INT QUIT; echo $$; {LOOP}", stdin=other)
+        os.close(other)
+        command = int(process.stdout.readline())
+        self.assertEqual(os.getpgid(command), os.getpgid(process.pid))
+        # What came before it was known to have begun is sent to it.
+        time.sleep(1.0)
+        for number in (signal.SIGINT, signal.SIGQUIT):
+            # As the terminal would, which tells the command itself.
+            process.send_signal(number)
+        time.sleep(0.5)
+        process.terminate()
+        self.assertEqual((process.stdout.read(), process.wait(10)), ("143\n", 0))
+
     def test_an_exit_status_is_told_though_ends_of_children_are_ignored(self) -> None:
         process = self.begin("exit 7", preexec_fn=lambda: signal.signal(signal.SIGCHLD, signal.SIG_IGN))
         self.assertEqual((process.stdout.read(), process.wait(10)), ("7\n", 0))
 
     def test_a_signal_within_the_grace_keeps_no_command_from_its_end(self) -> None:
-        process = self.begin(f"trap '' TERM; echo $$; {LOOP}", "1 / 0", stderr=subprocess.DEVNULL)
+        process = self.begin(f"trap '' TERM; echo $$; {LOOP}", "1 / 0")
         command = int(process.stdout.readline())
         time.sleep(1.5)
         for _ in range(2):
