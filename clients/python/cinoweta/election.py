@@ -1,13 +1,14 @@
 """Who leads, and how to come to lead."""
 import contextlib
 import logging
+import os
 import secrets
 import time
 from collections.abc import AsyncIterator
 
 from .asking import Asking
-from .errors import (FAILED, AlreadyStands, CinowetaError, Full, Late, LimitReached, NoAnswer, NoLeader, NoTerm,
-                     OutOfMemory, Retired, Stale, TooFar, WrongRing)
+from .errors import (FAILED, PASSING, AlreadyStands, CinowetaError, Full, Late, LimitReached, NoAnswer, NoLeader, NoTerm,
+                     OutOfMemory, Refused, Retired, Stale, TooFar, WrongRing)
 from .kinds import Election, Leader, Led
 from .pause import Pause
 
@@ -62,8 +63,26 @@ class Campaign:
             raise NoLeader(f"{text}: {', '.join(faults)}" if faults else text, faults)
         is_mine = known in self.stood
         if not is_mine and known.leader.bid == self.bid and any(term == known.term for term, _ in self.stood):
-            raise WrongRing(f"who stood at node {self.places[0]} leads at node {known.leader.node}: give all ports")
+            if not await self.is_of_another(known):
+                raise WrongRing(f"who stood at node {self.places[0]} leads at node {known.leader.node}: give all ports")
         return Election(known.term, known.leader, is_mine)
+
+    async def is_of_another(self, known: Led) -> bool:
+        """Whether this bid, which leads at a node where this one did not stand, is by chance that of another process, too:
+        the node knows it. The term has its leader, so that one more Stand changes nothing."""
+        node, line = known.leader.node, f"stand {self.group} {known.term} {self.bid}"
+        if node > self.ring.nodes:
+            return False
+        try:
+            await self.ring.do_ask(line, node)
+        except PASSING:
+            raise
+        except Refused as fault:
+            return fault.text == f"already {self.bid}"
+        finally:
+            # Whatever comes of it, it is no Stand of this one.
+            self.ring.unanswered.pop((os.getpid(), node, line), None)
+        return False
 
     async def stand(self, term: int) -> None:
         """Stands for the term where it may. Not where somebody else does, or leads in a greater term, who comes to be

@@ -239,6 +239,31 @@ class CampaignTest(Beside):
         nodes[0].answer = decided
         self.assertFalse(ring.campaign_with(10, "red", node=1, seconds=0.1).is_mine)
 
+    def test_a_bid_that_leads_at_another_node_is_of_another_process(self) -> None:
+        lines = {"latest red": "none", "stand red 1 10": "stood"}
+
+        def node(line: str) -> str:
+            told = lines[line]
+            lines["latest red"] = "term 1 leader 2 10" if told == "stood" else lines["latest red"]
+            return told
+
+        for answers, is_known in ((("no 3 already 10",), True), (("no 4 late",), False), (("stood",), False),
+                                  (("no 3 already 11",), False), ((None,) * 9, None)):
+            lines["latest red"] = "none"
+            ring, nodes = self.ring(node, first(*answers), timeout=0.2)
+            if is_known:
+                self.assertEqual(ring.campaign_with(10, "red", node=1, seconds=0.1), Election(1, Leader(2, 10), False))
+            else:
+                # A node that does not answer may know it.
+                with self.assertRaises(NoAnswer if is_known is None else WrongRing):
+                    ring.campaign_with(10, "red", node=1, seconds=0.1)
+            self.assertEqual(({*nodes[1].lines}, ring.unanswered), ({"stand red 1 10"}, {}))
+        # Nor of a ring that has no such node.
+        lines["latest red"] = "none"
+        ring, _ = self.ring(lambda line: node(line).replace("leader 2", "leader 3"), deaf)
+        with self.assertRaisesRegex(WrongRing, "who stood at node 1 leads at node 3: give all ports"):
+            ring.campaign_with(10, "red", node=1, seconds=0.1)
+
     def test_goes_to_another_node_where_one_does_not_answer(self) -> None:
         votes = Votes()
 
@@ -356,7 +381,8 @@ class CampaignTest(Beside):
         def second(line: str) -> str:
             return votes(line).replace("leader 1", "leader 2")
 
-        ring, _ = self.ring(second, second)
+        # What is taken for node 2 is node 3.
+        ring, _ = self.ring(second, lambda line: "no 4 late" if line.startswith("stand") else second(line))
         with self.assertRaises(WrongRing):
             self.campaign(ring)
 
