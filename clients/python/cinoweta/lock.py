@@ -32,13 +32,14 @@ def waiters(ring: Ring, group: str, patience: float = 5.0) -> list[Waiter]:
 class Lock(Locking):
     """The lock of a group: `with Lock(ring, "jobs") as held:` waits until this process leads, in `held.term`, which it
     sends with each write as a fencing number, and resigns at the end. A holder is gone once its process has ended, or
-    did not answer for `patience` seconds, as a paused one. Waited is for `wait` seconds, or for ever: then `LockTaken`,
-    or the fault of a ring that is away, full or failed; 0 tries once. A try that began has two seconds. Others are told
-    `text`, and who waited longest comes next, but the greatest `rank` first. The terms more than `keep` below its own are
-    retired. With `give_up` it is lost once no node answered for so many seconds. `on_lost` is called with the lock by a
-    thread of the ring within some two seconds once it is lost, and not where it resigned. It must not block: that thread
-    looks for all locks of the ring; and `sys.exit` ends nothing there. Where the ring has a `status` it is shown there,
-    half a second late, in a door that all locks of a process at a node share, if another stays free.
+    did not answer for `patience` seconds, as a paused one. Waited is for `wait` seconds, or for ever: then
+    `LockTaken`, or the fault of a ring that is away, full or failed; 0 tries once. A try that began has two seconds,
+    and longer until a holder that does not answer is gone. Others are told `text`, and who waited longest comes next,
+    but the greatest `rank` first. The terms more than `keep` below its own are retired. With `give_up` it is lost once
+    no node answered for so many seconds. `on_lost` is called with the lock by a thread of the ring within some two
+    seconds once it is lost, and not where it resigned. It must not block: that thread looks for all locks of the ring;
+    and `sys.exit` ends nothing there. Where the ring has a `status` it is shown there, half a second late, in a door
+    that all locks of a process at a node share, if another stays free.
 
     `across_hosts`, which is so with a ring of another host where it is not said, its clients may be on several hosts: all
     of them have to say so. The ring's `status` is needed, and a door of each node where this process holds any. A

@@ -136,7 +136,8 @@ def add_lock(parser: argparse.ArgumentParser) -> None:
     add_sight(parser)
     parser.add_argument("--wait", type=float, metavar="SECONDS",
                         help="how long it waits for who holds the lock, and for a ring that is away, full or failed; 0 "
-                             "tries once, for two seconds at most; for ever where it is left out")
+                             "tries once, for two seconds at most, or until a holder that does not answer is gone; for "
+                             "ever where it is left out")
     parser.add_argument("--give-up", type=float, metavar="SECONDS",
                         help="ends the COMMAND once no node answered for so long; never where it is left out")
     parser.add_argument("--grace", type=float, default=10.0, metavar="SECONDS", help="from TERM to KILL")
