@@ -2,6 +2,7 @@
 import contextlib
 import re
 import socket
+import threading
 
 from .errors import WrongRing
 
@@ -51,6 +52,47 @@ def addresses(host: str) -> set[str]:
         return {str(found[4][0]) for found in socket.getaddrinfo(host, None)}
     except OSError:
         return set()
+
+
+class LookUp(threading.Thread):
+    """Asks the system for the addresses of a name, for which it takes as long as it likes."""
+
+    def __init__(self, host: str) -> None:
+        super().__init__(daemon=True)
+        self.host, self.found = host, list[str]()
+        self.fault: OSError | None = None
+
+    def run(self) -> None:
+        try:
+            found = socket.getaddrinfo(self.host, None, type=socket.SOCK_STREAM)
+            self.found = [*dict.fromkeys(str(each[4][0]) for each in found)]
+        except OSError as fault:
+            self.fault = fault
+
+
+# The last one of each name.
+LOOK_UPS: dict[str, LookUp] = {}
+
+
+def look_up(host: str, seconds: float) -> list[str]:
+    """Its addresses, in the system's order, within so many seconds; else `OSError`. Who asks for a name that is looked up
+    waits for the same."""
+    if ":" in host or ADDRESS.fullmatch(host) is not None:
+        return [host]
+    asked = LOOK_UPS.get(host)
+    if asked is None or not asked.is_alive():
+        asked = LookUp(host)
+        try:
+            asked.start()
+        except RuntimeError as fault:
+            raise OSError(f"{host}: {fault}") from None
+        LOOK_UPS[host] = asked
+    asked.join(seconds)
+    if asked.fault is not None:
+        raise asked.fault
+    if not asked.found:
+        raise TimeoutError(f"{host} is not found in time")
+    return asked.found
 
 
 def place(text: str, host: str) -> tuple[str, int]:

@@ -6,7 +6,7 @@ import time
 from typing import Protocol
 
 from .errors import Cancelled, Resigned
-from .host import OWN
+from .host import OWN, look_up
 
 # So often is looked whether a wait was ended, in seconds.
 SLICE = 0.05
@@ -59,7 +59,20 @@ class Stop:
 
 
 def connect(host: str, port: int, seconds: float) -> socket.socket:
-    """A connection to who listens there. `OSError` where nobody does."""
+    """A connection to who listens there. `OSError` where nobody does at any of its addresses, each of which has the time
+    that its name left."""
+    until, faults = time.monotonic() + seconds, list[OSError]()
+    addresses = look_up(host, seconds)
+    left = max(0.001, until - time.monotonic())
+    for each in addresses:
+        try:
+            return connect_to(each, port, left)
+        except OSError as fault:
+            faults.append(fault)
+    raise faults[-1]
+
+
+def connect_to(host: str, port: int, seconds: float) -> socket.socket:
     connection = socket.create_connection((host, port), seconds)
     try:
         # Where nobody listens, the system may join a connection to itself, which would answer all that is sent.

@@ -38,8 +38,8 @@ class BlockingGate:
 class Ring(Asking):
     """A ring: node 1 listens at the port `first` of `host`, an IP address or a name, the last one at `last`. Questions
     are asked of any node, over one session at a time, which ends where nothing is asked for half a second; where one
-    breaks off, of the next node, until `timeout` seconds are over: `NoAnswer`. How long a name is looked up is the system's to say. A Stand stays with its node. At the port
-    `status` of the host, if any, `ringd --status` tells of the ring: then `NoLeader` says which node is not well.
+    breaks off, of the next node, until `timeout` seconds are over: `NoAnswer`. A Stand stays with its node. At the
+    port `status` of the host, if any, `ringd --status` tells of the ring: then `NoLeader` says which node is not well.
     All may be called from several threads; one waits for the other. A process that is forked opens sessions of its own."""
 
     def __init__(self, first: int, last: int, *, host: str = OWN, timeout: float = 10.0,

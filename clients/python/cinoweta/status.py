@@ -3,7 +3,6 @@ import contextlib
 import io
 import json
 import re
-import socket
 import time
 import urllib.parse
 from collections.abc import Iterator
@@ -11,7 +10,7 @@ from typing import Any, NamedTuple
 
 from .errors import NoAnswer, WrongRing
 from .host import OWN, address, require
-from .link import Stop
+from .link import Stop, connect
 
 # More is read of no answer, in bytes.
 LONGEST = 1 << 20
@@ -26,7 +25,7 @@ def ask(host: str, port: int, path: str, seconds: float, stop: Stop = Stop()) ->
     """The status and the text of an answer, which is waited for until this stops."""
     until, told = time.monotonic() + seconds, b""
     try:
-        with socket.create_connection((require(host), port), seconds) as connection:
+        with connect(require(host), port, seconds) as connection:
             connection.sendall(question(host, port, path))
             # All of it is waited for so long, and not each part.
             while len(told) <= LONGEST and not is_whole(told):

@@ -3,6 +3,7 @@ import contextlib
 import io
 import os
 import signal
+import socket
 import subprocess
 import sys
 import threading
@@ -11,7 +12,7 @@ import unittest
 from unittest import mock
 
 from cinoweta import (Cancelled, Holder, Leader, Lock, LockTaken, NoAnswer, NoLeader, NotHeld, NoTerm, Refused, Resigned,
-                      Ring, TooFar, WrongRing)
+                      Ring, TooFar, WrongRing, status)
 from cinoweta.command import main
 from cinoweta.host import is_own
 from cinoweta.looks import Looks
@@ -446,6 +447,33 @@ class LossTest(BesideLock):
         self.until(lambda: len(nodes[0].lines) + len(nodes[1].lines) > 0 and nodes[0].lines[-1] == "latest red")
         self.assertTrue(blue.is_lost())
         thread.join(5.0)
+
+    def test_a_name_that_is_not_found_bounds_no_look(self) -> None:
+        ring, _ = self.votes_ring()
+        near, ends, find, names = Ring(ring.first, ring.ports[-1], host="localhost"), threading.Event(), socket.getaddrinfo, []
+        self.addCleanup(ends.set)
+        told: list[Lock] = []
+        locks = [self.lock(near, give_up=1.0), self.lock(near, "blue", give_up=1.0, on_lost=told.append)]
+        for lock in locks:
+            self.votes.stood.clear()
+            self.votes.leaders.clear()
+            lock.acquire()
+
+        def cut_off(host: str, *words: object, **more: object) -> object:
+            if host == "localhost":
+                names.append(host)
+                ends.wait(6.0)
+            return find(host, *words, **more)
+
+        with mock.patch("socket.getaddrinfo", cut_off):
+            before = time.monotonic()
+            while not locks[0].is_lost() or not told:
+                time.sleep(0.1)
+            self.assertLess(time.monotonic() - before, 3.0)
+            # All wait for one.
+            self.assertEqual(len(names), 1)
+            with self.assertRaisesRegex(NoAnswer, "localhost is not found in time"):
+                status.ask("localhost", 1, "/health", 0.1)
 
     def test_the_command_is_ended_where_it_gives_up(self) -> None:
         ring, nodes = self.votes_ring()
