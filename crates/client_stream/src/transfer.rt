@@ -13,7 +13,7 @@ const LINGER: u64 = 1_000;
 
 const LINGER_BYTES: usize = 1 << 16;
 
-/// Reads what the client sends, until the deadline.
+/// Reads what the client sends, until the deadline, whatever an earlier read waited for.
 pub fn receive<R: Wait + Clock>(
     rt: &R,
     stream: &TcpStream,
@@ -24,9 +24,7 @@ pub fn receive<R: Wait + Clock>(
 {
     let mut stream = stream;
     for _ in rt.forever() {
-        if let Some(left) = deadline.left(rt)? {
-            stream.set_read_timeout(Some(left))?;
-        }
+        stream.set_read_timeout(deadline.left(rt)?)?;
         match stream.read(buf) {
             Err(error) if deadline.tries_again(rt, &error) => {}
             done => return done,
@@ -97,6 +95,9 @@ pub fn part<R: Wait + Clock>(rt: &R, stream: &TcpStream) {
         match receive(rt, stream, deadline, &mut rest) {
             Ok(count) if 0 < count && count < left => left -= count,
             _ => return,
+        }
+        if deadline.is_over(rt) {
+            return;
         }
     }
 }

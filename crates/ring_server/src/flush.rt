@@ -130,6 +130,9 @@ pub(crate) fn flush_all<V: Device, J: Naming, A: NodeLedger, R: Wait + Clock>(
     for _ in rt.forever() {
         match flush_once(rt, hub, flusher, links.tally) {
             Ok(Some(landed)) => {
+                if since.is_some() {
+                    links.has_memory(rt);
+                }
                 since = None;
                 release(rt, &landed, links);
             }

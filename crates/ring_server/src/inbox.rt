@@ -58,6 +58,7 @@ pub(crate) fn take_all<'a, A: NodeLedger, R: Wait + Clock>(
             Coming::End => break,
         }
         send_what_may_miss(rt, hub, links);
+        look_for_room(rt, hub, links);
     }
     if let Some(question) = inbox.intake.owes_at_last() {
         tell(rt, &mut inbox, question);
@@ -71,6 +72,18 @@ pub(crate) fn take_all<'a, A: NodeLedger, R: Wait + Clock>(
     } = inbox;
     intake.finish();
     share
+}
+
+/// Where some node wants something, looks whether this one has room, so that it is told to want some once more when it does: of
+/// a node that no client stands at nothing else would tell.
+fn look_for_room<A: NodeLedger, R: Wait>(rt: &R, hub: &Hub<A>, links: &Links<'_>) {
+    if !links.watch.is_anything_wanted() {
+        return;
+    }
+    let look = hub.look(rt);
+    if look.takes_stands() && !look.lacks_room() {
+        links.has_room(rt);
+    }
 }
 
 /// Hears what waits in the letterbox, as much as fits a batch. Whether it leaves some.

@@ -146,6 +146,16 @@ impl<'a> Links<'a> {
         self.watch.starve(rt, self.node);
     }
 
+    /// The node has room again, where it was told to want some.
+    pub(crate) fn has_room<R: Wait>(&self, rt: &R) {
+        self.watch.has_room(rt, self.node);
+    }
+
+    /// The node had memory for a round, behind such as were refused.
+    pub(crate) fn has_memory<R: Wait>(&self, rt: &R) {
+        self.watch.has_memory(rt, self.node);
+    }
+
     /// The node's door is done.
     pub(crate) fn leave<R: Wait>(&self, rt: &R) {
         self.post.leave(rt);

@@ -242,9 +242,30 @@ impl Watch {
         self.change(&mut book, node, wants);
     }
 
+    /// Whether some node wants something, as far as is known.
+    pub(crate) fn is_anything_wanted(&self) -> bool {
+        self.wanting.load(Ordering::SeqCst)
+    }
+
+    /// The node has room for messages and for Stands.
+    pub(crate) fn has_room<R: Wait>(&self, rt: &R, node: NodeNo) {
+        let mut book = self.book.lock(rt);
+        let mut wants = book.wants(node);
+        wants.room = false;
+        self.change(&mut book, node, wants);
+    }
+
+    /// The node had memory for a round.
+    pub(crate) fn has_memory<R: Wait>(&self, rt: &R, node: NodeNo) {
+        let mut book = self.book.lock(rt);
+        let mut wants = book.wants(node);
+        wants.memory = false;
+        self.change(&mut book, node, wants);
+    }
+
     /// The node stands for a client, durably: so it has room and memory.
     pub(crate) fn ease<R: Wait>(&self, rt: &R, node: NodeNo) {
-        if self.wanting.load(Ordering::SeqCst) {
+        if self.is_anything_wanted() {
             self.change(&mut self.book.lock(rt), node, NOTHING);
         }
     }

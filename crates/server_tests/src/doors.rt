@@ -1,12 +1,13 @@
 // Sessions side by side, and clients that are silent.
 use crate::clients::{answers, connect, is_ended};
-use crate::http::Question::{AtLast, NotWell, Target};
+use crate::http::Question::{NotWell, Target};
 use crate::http::is_answered;
 use crate::programs::{Ring, Scenario};
 use crate::steps::runs_anew;
 use crate::visits::Say::{Line, Nothing};
 use crate::visits::{Say, Visit};
 use std::alloc::AllocGlobal;
+use std::io::Write;
 use std::net::{Net, TcpStream};
 use std::test::*;
 use std::time::{Clock, Duration, Instant};
@@ -163,7 +164,8 @@ fn is_served_shortly<R: Net<Stream = TcpStream> + Clock>(rt: &R, port: u16) -> b
     came != Came::Otherwise
 }
 
-/// Whether the session that has the last free door of the node at this port goes on once another one ends, however silent it is.
+/// Whether the session that has the last free door of the node at this port goes on once another one has ended, however silent it
+/// is, and however often it asks.
 fn goes_on<R: Net<Stream = TcpStream> + Clock + AllocGlobal>(
     rt: &R,
     port: u16,
@@ -178,15 +180,20 @@ fn goes_on<R: Net<Stream = TcpStream> + Clock + AllocGlobal>(
     if first == Came::Otherwise
         || !is_answered(rt, told_at, Target("/status", b"\"busy\":2,\"doors\":2,"))
         || !answers(&other, b"bye\n", b"bye")
-        || !is_answered(rt, told_at, AtLast("/status", b"\"doorless\":[],"))
     {
+        return false;
+    }
+    drop(other);
+    // there is a door for one more
+    if !is_served_shortly(rt, port) {
         return false;
     }
     // it was left before the other door was free
     if first == Came::Late || client.was_silent(rt) {
         return true;
     }
-    rt.sleep(Duration::from_millis(1_500));
+    // longer than it could have been silent before, and than a read waits that began then
+    rt.sleep(Duration::from_millis(3_500));
     for _ in 0..12 {
         if !answers(&client.stream, b"latest red\n", b"none") {
             return false;
@@ -225,12 +232,12 @@ const OTHERS: Visit = Visit::Asks(7388, b"who blue 4\n", b"none");
 
 const KEPT: Scenario = Scenario {
     ring: Ring::Program(
-        &["ringd", "--serve", "6", "--doors", "2", "--status", "7386"],
+        &["ringd", "--serve", "7", "--doors", "2", "--status", "7386"],
         b"nodes = 2\ndir = \"kept\"\nport = 7387\n",
     ),
     visits: [
         &[Visit::KeepsADoor(7387, 7386)],
-        &[OTHERS, OTHERS, OTHERS, OTHERS, OTHERS, OTHERS],
+        &[OTHERS, OTHERS, OTHERS, OTHERS, OTHERS, OTHERS, OTHERS],
         &[],
     ],
     status: 0,
@@ -241,6 +248,47 @@ const KEPT: Scenario = Scenario {
 #[test]
 fn a_door_for_short_questions(rt: HostRuntime) {
     runs_anew(&rt, "kept", &KEPT);
+}
+
+/// Whether a client that has said `bye`, and goes on to send a byte each millisecond, is closed all the same.
+pub fn is_closed_dripping<R: Net<Stream = TcpStream> + Clock>(rt: &R, port: u16) -> bool {
+    let Some(stream) = connect(rt, port) else {
+        return false;
+    };
+    if !answers(&stream, b"bye\n", b"bye") {
+        return false;
+    }
+    let mut writer = &stream;
+    for _ in 0..3_000 {
+        if writer.write_all(b"a").is_err() {
+            return true;
+        }
+        rt.sleep(Duration::from_millis(1));
+    }
+    false
+}
+
+const DRIPPING: Scenario = Scenario {
+    ring: Ring::Program(
+        &["ringd", "--serve", "1"],
+        b"nodes = 2\ndir = \"dripping\"\nport = 7435\n",
+    ),
+    visits: [
+        &[
+            Visit::Drips(7435),
+            Visit::Asks(7436, b"who blue 4\n", b"none"),
+        ],
+        &[],
+        &[],
+    ],
+    status: 0,
+    out: b"",
+    err: Some(b""),
+};
+
+#[test]
+fn clients_that_drip_behind_their_session(rt: HostRuntime) {
+    runs_anew(&rt, "dripping", &DRIPPING);
 }
 
 /// Whether a client that sends an empty line every 0.4 seconds, which is refused, is left as one that is silent.

@@ -95,6 +95,68 @@ pub fn is_filled_by_others<R: AllocGlobal + Clock + Net<Stream = TcpStream>>(
         && answers(&three, b"bye\n", b"bye")
 }
 
+/// How many terms are stood for at most where node 1 only hears of them.
+const OTHERS_TERMS: u32 = 2_000;
+
+/// How far below the latest term is retired, which not each node knows yet.
+const BEHIND: u32 = 10;
+
+/// The first term that is refused at node 2, or that it is told no leader of, where all nodes but the first retire again and again.
+fn first_that_is_left<R: AllocGlobal + Clock>(rt: &R, two: &TcpStream, three: &TcpStream) -> u32 {
+    for term in 1..OTHERS_TERMS {
+        if term % 50 == 0
+            && !(retires(rt, two, term - BEHIND) && retires(rt, three, term - BEHIND))
+        {
+            return OTHERS_TERMS;
+        }
+        if !stands(rt, two, term) || !is_led(rt, two, term) {
+            return term;
+        }
+    }
+    OTHERS_TERMS
+}
+
+/// Whether the ring at the port of its first node and those behind it elects again once that node retires, which messages filled,
+/// and at which nobody stands.
+pub fn is_filled_at_rest<R: AllocGlobal + Clock + Net<Stream = TcpStream>>(
+    rt: &R,
+    port: u16,
+) -> bool {
+    let (Some(one), Some(two), Some(three)) = (
+        connect(rt, port),
+        connect(rt, port.saturating_add(1)),
+        connect(rt, port.saturating_add(2)),
+    ) else {
+        return false;
+    };
+    let term = first_that_is_left(rt, &two, &three);
+    let Ok(who) = format!(in rt.alloc(); "who a {term}\n") else {
+        return false;
+    };
+    term < OTHERS_TERMS
+        && retires(rt, &one, term.saturating_sub(BEHIND))
+        && answers_at_last(rt, &two, who.as_bytes(), b"leader 2 10")
+        && answers(&one, b"bye\n", b"bye")
+        && answers(&two, b"bye\n", b"bye")
+        && answers(&three, b"bye\n", b"bye")
+}
+
+const AT_REST: Scenario = Scenario {
+    ring: Ring::Program(
+        SERVE,
+        b"nodes = 3\ndir = \"rest\"\nport = 7431\ncapacity = 4096\n",
+    ),
+    visits: [&[Visit::IsFilledAtRest(7431)], &[], &[]],
+    status: 0,
+    out: b"",
+    err: Some(b"ringd: node 1 full\nringd: node 1 well again\n"),
+};
+
+#[test]
+fn a_node_at_which_nobody_stands(rt: HostRuntime) {
+    runs_anew(&rt, "rest", &AT_REST);
+}
+
 const FILLED: Scenario = Scenario {
     ring: Ring::Program(
         SERVE,

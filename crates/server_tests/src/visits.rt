@@ -2,8 +2,10 @@
 use crate::checkpoints::{Stands, leads_all_terms};
 use crate::clients::{answers, answers_at_last, connect, is_ended};
 use crate::devices::{awaits, stands_until_it_fails};
-use crate::doors::{is_kept_asking, is_left_refused, keeps_a_door, side_by_side};
-use crate::full::is_filled_by_others;
+use crate::doors::{
+    is_closed_dripping, is_kept_asking, is_left_refused, keeps_a_door, side_by_side,
+};
+use crate::full::{is_filled_at_rest, is_filled_by_others};
 use crate::holders::holds_all;
 use crate::http::{Question, is_answered};
 use crate::news::short_sessions;
@@ -66,6 +68,10 @@ pub enum Visit {
     AsksOn(u16),
     /// Stands at the three nodes from this port on fill the first, which retires, and goes on.
     IsFilledByOthers(u16),
+    /// A client that drips behind its session is closed.
+    Drips(u16),
+    /// Messages fill the first of the three nodes from this port on, which retires, and goes on though nobody stands there.
+    IsFilledAtRest(u16),
     /// As many bytes as this has are seen on standard error.
     Sees(&'static [u8]),
     /// A head of 8,192 bytes is answered, and a longer one is too large.
@@ -147,6 +153,8 @@ fn comes_out<R: Net<Stream = TcpStream> + Clock + AllocGlobal>(
         Visit::IsRefused(port) => is_left_refused(rt, port),
         Visit::AsksOn(port) => is_kept_asking(rt, port),
         Visit::IsFilledByOthers(port) => is_filled_by_others(rt, port),
+        Visit::Drips(port) => is_closed_dripping(rt, port),
+        Visit::IsFilledAtRest(port) => is_filled_at_rest(rt, port),
         Visit::Sees(text) => awaits(rt, seen, text.len() as u64),
         Visit::MeasuresHeads(port) => measures_heads(rt, port),
         Visit::IsBesideSilent(port) => is_served_beside(rt, port),
