@@ -1,5 +1,5 @@
 -- What is refused in front of a hub, and what is asked of it once more.
-use Rattle.std.specs.Prelude.{ℕ, ◌≡◌, ◌⊎◌, ◌+◌, ◌&&◌, not, nat_lt, Option, Some, None, Ok, Err, MatchOption}
+use Rattle.std.specs.Prelude.{ℕ, ◌≡◌, ◌⊎◌, ◌+◌, ◌&&◌, not, nat_lt, if◌then◌else◌, Option, Some, None, Ok, Err, MatchOption}
 use Rattle.ring_records.specs.declared.key.Key.{Key}
 use Rattle.ring_records.specs.declared.refusal.Refusal.{Refusal}
 use Rattle.ring_records.specs.declared.refusal.Refusal.TheVariants as refused
@@ -16,11 +16,13 @@ use Rattle.commit_hub.specs.Stances.{takes_stands}
 use Rattle.sessions.specs.Session.{Answer, Asks}
 
 -- Why a Stand for the term is refused, where this is the latest that is known for its group and the hub shows this: it is more
--- than the leap above the latest, or the node takes no Stand for want of room. A leap of 0 is for no bound.
+-- than the leap above the latest, or the node takes no Stand for want of room. A leap of 0 is for no bound. A hub that is not open is
+-- asked whatever it shows, and refuses all.
 abbrev pub objection_to : ℕ → ℕ → Look → ℕ → Option Refusal
-objection_to leap latest look term =
+objection_to leap latest look term = if look.is_open then
     or_else (where_so (nat_lt 0 leap && nat_lt (latest + leap) term) (refused.TooFar (latest + leap)))
     (where_so (not (takes_stands look)) refused.Full)
+    else None
 
 -- the latest term that is told of a group, 0 where none is
 abbrev pub latest_in : Answer → ℕ

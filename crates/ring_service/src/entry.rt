@@ -11,8 +11,8 @@ use std::sync::Wait;
 
 /// A service in front of that of a hub. A Stand is refused here, and the hub not asked, as 28 where its term is more than
 /// the leap above the latest that the node knows for the group, 0 where it knows none, and as 7 where the Stand and its
-/// messages would leave less than the reserve free behind a checkpoint. What the hub refuses as 7 is asked once more, behind
-/// the checkpoint that the refusal wanted.
+/// messages would leave less than the reserve free behind a checkpoint; a hub that has failed or is closed is asked. What the
+/// hub refuses as 7 is asked once more, behind the checkpoint that the refusal wanted.
 #[derive(Drop)]
 pub struct EntryService<'a, R, A: NodeLedger, S: Service> {
     rt: &'a R,
@@ -35,11 +35,14 @@ fn farthest(leap: u32, latest: u32, term: Term) -> Option<Term>
     Term::new(most).ok()
 }
 
-/// Why a Stand for this term is not asked of the hub, which shows this.
+/// Why a Stand for this term is not asked of the hub, which shows this. A hub that has failed or is closed says so itself.
 fn objection_to(leap: u32, latest: u32, look: &Look, term: Term) -> Option<Refusal>
     requires { (leap ≤ 999999999) × (latest ≤ 999999999) }
     ensures { result ≡ objection_to leap latest look.now term }
 {
+    if !look.is_open {
+        return None;
+    }
     if let Some(most) = farthest(leap, latest, term) {
         return Some(Refusal::TooFar(most));
     }
