@@ -1,4 +1,4 @@
-// The lines that are printed.
+// Lines, and what is printed.
 ghost use Rattle.std.specs.Prelude.{◌≡◌, ◌++◌, ◌∷◌, [], OnOk};
 
 use std::alloc::AllocError;
@@ -21,4 +21,12 @@ pub fn add_printed(out: &mut Vec<u8>, text: &str) -> Result<(), AllocError> {
         add_line(out, INDENT, line.as_bytes())?;
     }
     Ok(())
+}
+
+/// What stands before the first space of a text, and what stands behind it.
+pub fn first_word(text: &str) -> (&str, &str) {
+    match text.split_once(' ') {
+        Some(parts) => parts,
+        None => (text, ""),
+    }
 }

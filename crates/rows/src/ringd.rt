@@ -1,4 +1,5 @@
 // Rows of `ringd`: folders and files, and rings that serve clients over sockets.
+mod caller;
 mod clients;
 mod daemon;
 mod files;

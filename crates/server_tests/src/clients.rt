@@ -3,9 +3,25 @@ use std::io::{Read, Write};
 use std::net::{Ipv4Addr, Net, TcpStream};
 use std::time::{Clock, Duration};
 
-/// Connects, and tries again while nobody listens, at most 5,000 times.
+/// How often is tried what is waited for, a millisecond apart: how long a start takes, or a sync, is for the disk to say.
+const TRIES: u32 = 30_000;
+
+/// Whether it is so at last.
+pub fn is_at_last<R: Clock, F: Fn() -> bool>(rt: &R, is_so: F) -> bool
+    requires { F.IsAlwaysCallable is_so }
+{
+    for _ in 0..TRIES {
+        if is_so() {
+            return true;
+        }
+        rt.sleep(Duration::from_millis(1));
+    }
+    false
+}
+
+/// Connects, and tries again while nobody listens.
 pub fn connect<R: Net<Stream = TcpStream> + Clock>(rt: &R, port: u16) -> Option<TcpStream> {
-    for _ in 0..5_000 {
+    for _ in 0..TRIES {
         if let Ok(stream) = TcpStream::connect(rt, (Ipv4Addr::LOCALHOST, port)) {
             let _ = stream.set_nodelay(true);
             return Some(stream);
@@ -43,15 +59,9 @@ pub fn answers(stream: &TcpStream, line: &[u8], text: &[u8]) -> bool {
     }
 }
 
-/// Whether the line is answered so, once it is not answered `none`; it is asked again at most 5,000 times.
+/// Whether the line is answered so at last.
 pub fn answers_at_last<R: Clock>(rt: &R, stream: &TcpStream, line: &[u8], text: &[u8]) -> bool {
-    for _ in 0..5_000 {
-        if answers(stream, line, text) {
-            return true;
-        }
-        rt.sleep(Duration::from_millis(1));
-    }
-    false
+    is_at_last(rt, || answers(stream, line, text))
 }
 
 /// Whether the session ends, though the client says nothing more.

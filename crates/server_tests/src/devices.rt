@@ -1,7 +1,7 @@
 // A ring of three over devices in memory, of which one may fail.
 ghost use Rattle.std.specs.Prelude.{◌≤◌};
 
-use crate::clients::{answers, connect};
+use crate::clients::{answers, connect, is_at_last};
 use crate::programs::Ended;
 use crossbeam_channel::Receiver;
 use disk_model::{Device, FuseDevice, MemDevice};
@@ -317,7 +317,7 @@ fn leads_or_fails<R: AllocGlobal + Clock>(rt: &R, stream: &TcpStream, term: u32)
     if writeln!(stand, "stand red {term} 10").is_err() || writeln!(who, "who red {term}").is_err() {
         return false;
     }
-    for _ in 0..5_000 {
+    for _ in 0..30_000 {
         if answers(stream, &stand, b"no 9 failed") {
             return false;
         }
@@ -347,13 +347,7 @@ pub fn stands_until_it_fails<R: AllocGlobal + Clock + Net<Stream = TcpStream>>(
         && answers(&stream, b"bye\n", b"bye")
 }
 
-/// Waits until so many bytes are seen, at most five seconds.
+/// Waits until so many bytes are seen. Whether they are at last.
 pub fn awaits<R: Clock>(rt: &R, len: &AtomicU64, count: u64) -> bool {
-    for _ in 0..5_000 {
-        if len.load(Ordering::SeqCst) >= count {
-            return true;
-        }
-        rt.sleep(std::time::Duration::from_millis(1));
-    }
-    false
+    is_at_last(rt, || len.load(Ordering::SeqCst) >= count)
 }

@@ -1,9 +1,9 @@
 // An operator, who asks at the port where one is told of a ring.
-use crate::clients::connect;
+use crate::clients::{connect, is_at_last};
 use std::alloc::AllocGlobal;
 use std::io::{Read, Write};
 use std::net::{Net, TcpStream};
-use std::time::{Clock, Duration};
+use std::time::Clock;
 
 /// What is asked, and what is answered.
 #[derive(Clone, Copy)]
@@ -12,9 +12,9 @@ pub enum Question {
     Status(&'static [u8], &'static [u8], &'static [u8]),
     /// This target is answered with 200 and a text in which that stands.
     Target(&'static str, &'static [u8]),
-    /// So it is at last; it is asked at most 5,000 times.
+    /// So it is at last.
     AtLast(&'static str, &'static [u8]),
-    /// This is told at last of what is not well; it is asked at most 5,000 times.
+    /// This is told at last of what is not well.
     NotWell(&'static [u8]),
 }
 
@@ -110,35 +110,24 @@ fn is_told<R: Net<Stream = TcpStream> + Clock + AllocGlobal>(
     }
 }
 
-/// Whether a target is answered so at last; it is asked at most 5,000 times.
+/// Whether a target is answered so at last.
 fn is_answered_at_last<R: Net<Stream = TcpStream> + Clock + AllocGlobal>(
     rt: &R,
     port: u16,
     target: &str,
     text: &[u8],
 ) -> bool {
-    for _ in 0..5_000 {
-        if is_told(rt, port, target, text) {
-            return true;
-        }
-        rt.sleep(Duration::from_millis(1));
-    }
-    false
+    is_at_last(rt, || is_told(rt, port, target, text))
 }
 
-/// Whether this is told at last of what is not well; it is asked at most 5,000 times.
+/// Whether this is told at last of what is not well.
 pub fn is_told_at_last<R: Net<Stream = TcpStream> + Clock + AllocGlobal>(
     rt: &R,
     port: u16,
     text: &[u8],
 ) -> bool {
-    for _ in 0..5_000 {
-        if has_status(rt, port, b"GET /health HTTP/1.1\r\n\r\n", b"503 ", text) {
-            return true;
-        }
-        rt.sleep(Duration::from_millis(1));
-    }
-    false
+    let head = b"GET /health HTTP/1.1\r\n\r\n";
+    is_at_last(rt, || has_status(rt, port, head, b"503 ", text))
 }
 
 /// Whether it is answered so at this port.

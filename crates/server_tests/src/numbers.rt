@@ -1,6 +1,6 @@
 // Numbers that an operator is told, by what clients did.
 use crate::checkpoints::Stands;
-use crate::clients::connect;
+use crate::clients::{connect, is_at_last};
 use crate::http::Question::Status;
 use crate::http::{Question, answer_to, is_answered};
 use crate::programs::{Ring, Scenario};
@@ -41,22 +41,27 @@ fn fit<R: AllocGlobal>(rt: &R, told: &[u8], node: u8, failed: u64) -> Option<boo
     Some(checkpoints > 0 && syncs == wanted && timed == landed.saturating_add(failed))
 }
 
-/// Whether they do at last; it is asked at most 5,000 times.
+/// Whether they do, by what is told now.
+fn fit_now<R: Net<Stream = TcpStream> + Clock + AllocGlobal>(
+    rt: &R,
+    port: u16,
+    node: u8,
+    failed: u64,
+) -> bool {
+    match answer_to(rt, port, b"GET /metrics HTTP/1.1\r\n\r\n") {
+        Some(told) => fit(rt, &told, node, failed) == Some(true),
+        None => false,
+    }
+}
+
+/// Whether they do at last.
 pub fn fit_at_last<R: Net<Stream = TcpStream> + Clock + AllocGlobal>(
     rt: &R,
     port: u16,
     node: u8,
     failed: u64,
 ) -> bool {
-    for _ in 0..5_000 {
-        if let Some(told) = answer_to(rt, port, b"GET /metrics HTTP/1.1\r\n\r\n") {
-            if fit(rt, &told, node, failed) == Some(true) {
-                return true;
-            }
-        }
-        rt.sleep(Duration::from_millis(1));
-    }
-    false
+    is_at_last(rt, || fit_now(rt, port, node, failed))
 }
 
 const COUNTED: Scenario = Scenario {

@@ -1,32 +1,16 @@
 // The clients of a ring that serves, one at each node.
+use crate::ringd::caller::{Caller, TRIES};
 use crate::ringd::files::bytes_of;
 use crate::ringd::setting::Setting;
 use std::alloc::{AllocError, AllocGlobal, Global};
 use std::io::{Read, Write};
-use std::net::{Ipv4Addr, Net, TcpStream};
+use std::net::{Net, TcpStream};
 use std::str;
-use std::time::{Clock, Duration};
-
-/// How often is tried what is waited for, a millisecond apart.
-const TRIES: u32 = 5_000;
+use std::sync::Wait;
+use std::time::Clock;
 
 /// The most bytes of an answer.
 const ANSWER_BYTES: u32 = 1_000;
-
-/// Connects, and tries again while nobody listens.
-pub fn connect<R: Net<Stream = TcpStream> + Clock + AllocGlobal>(
-    rt: &R,
-    port: u16,
-) -> Option<TcpStream> {
-    for _ in 0..TRIES {
-        if let Ok(stream) = TcpStream::connect(rt, (Ipv4Addr::LOCALHOST, port)) {
-            let _ = stream.set_nodelay(true);
-            return Some(stream);
-        }
-        rt.sleep(Duration::from_millis(1));
-    }
-    None
-}
 
 /// The next byte that comes.
 fn next_byte(stream: &TcpStream) -> Option<u8> {
@@ -60,19 +44,19 @@ fn answer_to(alloc: Global, stream: &TcpStream, bytes: &[u8]) -> Result<Vec<u8>,
 }
 
 /// What is answered once it is not `none`.
-fn answer_at_last<R: Net<Stream = TcpStream> + Clock + AllocGlobal>(
-    rt: &R,
+fn answer_at_last<R: Net<Stream = TcpStream> + Wait + Clock + AllocGlobal>(
+    caller: &Caller<'_, R>,
     stream: &TcpStream,
     bytes: &[u8],
 ) -> Result<Vec<u8>, AllocError> {
     for _ in 0..TRIES {
-        let answer = answer_to(rt.alloc(), stream, bytes)?;
+        let answer = answer_to(caller.alloc(), stream, bytes)?;
         if answer.as_slice() != b"none".as_slice() {
             return Ok(answer);
         }
-        rt.sleep(Duration::from_millis(1));
+        caller.pause();
     }
-    answer_to(rt.alloc(), stream, bytes)
+    answer_to(caller.alloc(), stream, bytes)
 }
 
 /// A node's sessions: the one that is open, and how many were begun.
@@ -101,10 +85,16 @@ fn tell_answer(told: &mut String, answer: &[u8]) -> Result<(), AllocError> {
 
 impl Sessions {
     /// Opens a session where none is, at this port.
-    fn begin<R: Net<Stream = TcpStream> + Clock + AllocGlobal>(&mut self, rt: &R, port: u16) {
+    fn begin<R: Net<Stream = TcpStream> + Wait + Clock + AllocGlobal>(
+        &mut self,
+        caller: &Caller<'_, R>,
+        port: u16,
+    ) {
         if self.open.is_none() {
-            self.open = connect(rt, port);
-            self.begun = self.begun.saturating_add(1);
+            self.open = caller.connect(port);
+            if self.open.is_some() {
+                self.begun = self.begun.saturating_add(1);
+            }
         }
     }
 
@@ -118,9 +108,9 @@ impl Sessions {
     }
 
     /// Says a line, or asks it until it is not answered `none`.
-    fn says<R: Net<Stream = TcpStream> + Clock + AllocGlobal>(
+    fn says<R: Net<Stream = TcpStream> + Wait + Clock + AllocGlobal>(
         &mut self,
-        rt: &R,
+        caller: &Caller<'_, R>,
         line: &str,
         told: &mut String,
     ) -> Result<(), AllocError> {
@@ -131,27 +121,27 @@ impl Sessions {
             Some(line) => (line, true),
             None => (line, false),
         };
-        let mut bytes = bytes_of(rt, line)?;
+        let mut bytes = bytes_of(caller.alloc(), line)?;
         bytes.push(b'\n')?;
         let answer = if is_waited {
-            answer_at_last(rt, stream, &bytes)?
+            answer_at_last(caller, stream, &bytes)?
         } else {
-            answer_to(rt.alloc(), stream, &bytes)?
+            answer_to(caller.alloc(), stream, &bytes)?
         };
         tell_answer(told, &answer)
     }
 
     /// Ends the session that is open, and has so many in all. Whether each ended well.
-    fn end_all<R: Net<Stream = TcpStream> + Clock + AllocGlobal>(
+    fn end_all<R: Net<Stream = TcpStream> + Wait + Clock + AllocGlobal>(
         &mut self,
-        rt: &R,
+        caller: &Caller<'_, R>,
         port: u16,
         count: u32,
     ) -> Result<bool, AllocError> {
-        let mut all = self.end(rt.alloc())?;
+        let mut all = self.end(caller.alloc())?;
         for _ in self.begun..count {
-            self.begin(rt, port);
-            all = self.end(rt.alloc())? && all;
+            self.begin(caller, port);
+            all = self.end(caller.alloc())? && all;
         }
         Ok(all)
     }
@@ -171,9 +161,9 @@ impl<'a> Clients<'a> {
     }
 
     /// The client of this node says this, in the session that is open or else in a new one, and ends it by `bye`.
-    pub fn says<R: Net<Stream = TcpStream> + Clock + AllocGlobal>(
+    pub fn says<R: Net<Stream = TcpStream> + Wait + Clock + AllocGlobal>(
         &mut self,
-        rt: &R,
+        caller: &Caller<'_, R>,
         node: u8,
         line: &str,
         told: &mut String,
@@ -182,8 +172,8 @@ impl<'a> Clients<'a> {
         let Some(sessions) = self.sessions.get_mut(usize::from(node.saturating_sub(1))) else {
             return told.push_str("no node");
         };
-        sessions.begin(rt, port);
-        sessions.says(rt, line, told)?;
+        sessions.begin(caller, port);
+        sessions.says(caller, line, told)?;
         if line == "bye" {
             sessions.open = None;
         }
@@ -191,15 +181,15 @@ impl<'a> Clients<'a> {
     }
 
     /// Each node has so many sessions in all. Tells where one did not end well.
-    pub fn end<R: Net<Stream = TcpStream> + Clock + AllocGlobal>(
+    pub fn end<R: Net<Stream = TcpStream> + Wait + Clock + AllocGlobal>(
         &mut self,
-        rt: &R,
+        caller: &Caller<'_, R>,
         count: u32,
         told: &mut String,
     ) -> Result<(), AllocError> {
         let mut port = self.ring.port;
         for sessions in &mut self.sessions {
-            if !sessions.end_all(rt, port, count)? {
+            if !sessions.end_all(caller, port, count)? {
                 writeln!(told, "no bye at {port}")?;
             }
             port = port.saturating_add(1);

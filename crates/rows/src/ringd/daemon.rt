@@ -1,51 +1,14 @@
 // `ringd`, run to its end.
-use crate::ringd::setting::first_word;
-use ring_server::start;
-use std::alloc::{AllocError, AllocGlobal};
-use std::fs::File;
-use std::net::{Net, TcpListener, TcpStream};
-use std::rt::Files;
+use crate::lines::first_word;
+use std::alloc::AllocError;
 use std::str;
-use std::sync::Wait;
-use std::thread::Threads;
-use std::time::Clock;
 
 /// How it ended: the status, and what it wrote to standard output and standard error.
 #[derive(Drop)]
 pub struct Ended {
-    status: u8,
-    out: Vec<u8>,
-    err: Vec<u8>,
-}
-
-/// Runs it on these words and settings.
-pub fn run<R>(rt: &R, words: &str, settings: &[u8]) -> Result<Ended, AllocError>
-where
-    R: Threads
-        + Wait
-        + Sync
-        + Send
-        + Copy
-        + 'static
-        + Clock
-        + AllocGlobal
-        + Files<File = File>
-        + Net<Listener = TcpListener, Stream = TcpStream>,
-{
-    let alloc = rt.alloc();
-    let words: Vec<&str> = words.split(' ').collect(alloc)?;
-    let mut out = Vec::new(alloc);
-    let mut err = Vec::new(alloc);
-    let status = start(
-        rt,
-        alloc,
-        &words,
-        false,
-        &mut &*settings,
-        &mut out,
-        &mut err,
-    );
-    Ok(Ended { status, out, err })
+    pub status: u8,
+    pub out: Vec<u8>,
+    pub err: Vec<u8>,
 }
 
 /// Tells the lines of a text, without those that are empty.

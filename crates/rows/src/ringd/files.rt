@@ -1,24 +1,30 @@
 // What a line does with the folder of a ring, and what it finds there.
+use crate::lines::first_word;
 use crate::ringd::journal::tell_journal;
-use crate::ringd::setting::{Setting, first_word};
+use crate::ringd::setting::Setting;
 use crate::session::add_bytes;
-use std::alloc::{AllocError, AllocGlobal};
+use std::alloc::{AllocError, AllocGlobal, Global};
 use std::fs::File;
 use std::rt::Files;
 use std::{fs, io};
 
 /// The bytes that a text writes, or what stands before a backslash that has no meaning.
-pub fn bytes_of<R: AllocGlobal>(rt: &R, text: &str) -> Result<Vec<u8>, AllocError> {
-    let mut bytes = Vec::new(rt.alloc());
+pub fn bytes_of(alloc: Global, text: &str) -> Result<Vec<u8>, AllocError> {
+    let mut bytes = Vec::new(alloc);
     add_bytes(&mut bytes, text.as_bytes())?;
     Ok(bytes)
+}
+
+/// Tells an error of the system.
+pub fn tell_error(told: &mut String, error: &io::Error) -> Result<(), AllocError> {
+    write!(told, "{error}")
 }
 
 /// Tells an error of the system, if it answered one.
 fn tell_done(told: &mut String, done: io::Result<()>) -> Result<(), AllocError> {
     match done {
         Ok(()) => Ok(()),
-        Err(error) => write!(told, "{error}"),
+        Err(error) => tell_error(told, &error),
     }
 }
 
@@ -99,7 +105,7 @@ fn are_same<R: AllocGlobal + Files<File = File> + Copy>(
 fn tell_found(told: &mut String, found: io::Result<bool>) -> Result<(), AllocError> {
     match found {
         Ok(is_so) => tell_whether(told, is_so),
-        Err(error) => write!(told, "{error}"),
+        Err(error) => tell_error(told, &error),
     }
 }
 
@@ -112,7 +118,7 @@ fn tell_heads<R: AllocGlobal + Files<File = File> + Copy>(
 ) -> Result<(), AllocError> {
     match fs::read(rt, path) {
         Ok(journal) => tell_journal(&journal, ring.capacity, told),
-        Err(error) => write!(told, "{error}"),
+        Err(error) => tell_error(told, &error),
     }
 }
 
@@ -143,7 +149,7 @@ fn tell_names<R: AllocGlobal + Files<File = File> + Copy>(
             }
             Ok(())
         }
-        Err(error) => write!(told, "{error}"),
+        Err(error) => tell_error(told, &error),
     }
 }
 
@@ -154,7 +160,7 @@ fn write<R: AllocGlobal + Files<File = File> + Copy>(
     text: &str,
     told: &mut String,
 ) -> Result<(), AllocError> {
-    let bytes = bytes_of(rt, text)?;
+    let bytes = bytes_of(rt.alloc(), text)?;
     tell_done(told, fs::write(rt, path, &bytes))
 }
 
@@ -166,7 +172,7 @@ fn alter_by<R: AllocGlobal + Files<File = File> + Copy>(
     told: &mut String,
 ) -> Result<(), AllocError> {
     let (these, others) = first_word(text);
-    let (these, others) = (bytes_of(rt, these)?, bytes_of(rt, others)?);
+    let (these, others) = (bytes_of(rt.alloc(), these)?, bytes_of(rt.alloc(), others)?);
     match alter(rt, path, &these, &others) {
         Ok(true) => Ok(()),
         found => tell_found(told, found),

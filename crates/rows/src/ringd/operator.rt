@@ -1,35 +1,33 @@
 // An operator, who asks at the port where one is told of a ring.
-use crate::ringd::clients::connect;
+use crate::lines::first_word;
+use crate::ringd::caller::{Caller, TRIES};
 use crate::ringd::files::bytes_of;
-use crate::ringd::setting::first_word;
 use std::alloc::{AllocError, AllocGlobal};
 use std::io::{Read, Write};
 use std::net::{Net, TcpStream};
 use std::str;
-use std::time::{Clock, Duration};
-
-/// How often is tried what is waited for, a millisecond apart.
-const TRIES: u32 = 5_000;
+use std::sync::Wait;
+use std::time::Clock;
 
 /// Sends these bytes.
-fn sent<R: Net<Stream = TcpStream> + Clock + AllocGlobal>(
-    rt: &R,
+fn sent<R: Net<Stream = TcpStream> + Wait + Clock + AllocGlobal>(
+    caller: &Caller<'_, R>,
     port: u16,
     bytes: &[u8],
 ) -> Option<TcpStream> {
-    let stream = connect(rt, port)?;
+    let stream = caller.connect(port)?;
     let mut writer = &stream;
     writer.write_all(bytes).ok()?;
     Some(stream)
 }
 
 /// What is answered, up to its end. `None` where it has no date.
-fn read_answer<R: Net<Stream = TcpStream> + Clock + AllocGlobal>(
-    rt: &R,
+fn read_answer<R: Net<Stream = TcpStream> + Wait + Clock + AllocGlobal>(
+    caller: &Caller<'_, R>,
     stream: &TcpStream,
 ) -> Option<Vec<u8>> {
     let mut reader = stream;
-    let mut bytes = Vec::new(rt.alloc());
+    let mut bytes = Vec::new(caller.alloc());
     reader.read_to_end(&mut bytes).ok()?;
     if has_date(&bytes) { Some(bytes) } else { None }
 }
@@ -51,11 +49,11 @@ fn has_date(answer: &[u8]) -> bool {
 }
 
 /// The head that asks for a target.
-fn head_of<R: Net<Stream = TcpStream> + Clock + AllocGlobal>(
-    rt: &R,
+fn head_of<R: Net<Stream = TcpStream> + Wait + Clock + AllocGlobal>(
+    caller: &Caller<'_, R>,
     target: &str,
 ) -> Result<String, AllocError> {
-    format!(in rt.alloc(); "GET {target} HTTP/1.1\r\nHost: a\r\n\r\n")
+    format!(in caller.alloc(); "GET {target} HTTP/1.1\r\nHost: a\r\n\r\n")
 }
 
 /// Tells the lines of an answer, without its date and those that are empty.
@@ -109,33 +107,33 @@ fn has(bytes: &[u8], text: &[u8]) -> bool {
 }
 
 /// Whether 200 is answered to the head, and this text stands in the answer.
-fn is_told<R: Net<Stream = TcpStream> + Clock + AllocGlobal>(
-    rt: &R,
+fn is_told<R: Net<Stream = TcpStream> + Wait + Clock + AllocGlobal>(
+    caller: &Caller<'_, R>,
     port: u16,
     head: &str,
     text: &[u8],
 ) -> bool {
-    let Some(stream) = sent(rt, port, head.as_bytes()) else {
+    let Some(stream) = sent(caller, port, head.as_bytes()) else {
         return false;
     };
-    match read_answer(rt, &stream) {
+    match read_answer(caller, &stream) {
         Some(answer) => answer.starts_with(b"HTTP/1.1 200 OK\r\n") && has(&answer, text),
         None => false,
     }
 }
 
 /// Whether it is so at last.
-fn is_told_at_last<R: Net<Stream = TcpStream> + Clock + AllocGlobal>(
-    rt: &R,
+fn is_told_at_last<R: Net<Stream = TcpStream> + Wait + Clock + AllocGlobal>(
+    caller: &Caller<'_, R>,
     port: u16,
     head: &str,
     text: &[u8],
 ) -> bool {
     for _ in 0..TRIES {
-        if is_told(rt, port, head, text) {
+        if is_told(caller, port, head, text) {
             return true;
         }
-        rt.sleep(Duration::from_millis(1));
+        caller.pause();
     }
     false
 }
@@ -154,69 +152,69 @@ impl Operator {
     }
 
     /// Tells whether the answer has a text, now or at last, or else the status and the body of the answer.
-    fn gets<R: Net<Stream = TcpStream> + Clock + AllocGlobal>(
+    fn gets<R: Net<Stream = TcpStream> + Wait + Clock + AllocGlobal>(
         &self,
-        rt: &R,
+        caller: &Caller<'_, R>,
         verb: &str,
         rest: &str,
         told: &mut String,
     ) -> Result<(), AllocError> {
         let (target, wanted) = first_word(rest);
-        let head = head_of(rt, target)?;
+        let head = head_of(caller, target)?;
         let Some(text) = wanted.strip_prefix("has ") else {
-            let answer = self.answer_to(rt, head.as_bytes());
+            let answer = self.answer_to(caller, head.as_bytes());
             return tell_answer(told, answer, true);
         };
-        let text = bytes_of(rt, text)?;
+        let text = bytes_of(caller.alloc(), text)?;
         let is_so = if verb == "until" {
-            is_told_at_last(rt, self.port, &head, &text)
+            is_told_at_last(caller, self.port, &head, &text)
         } else {
-            is_told(rt, self.port, &head, &text)
+            is_told(caller, self.port, &head, &text)
         };
         told.push_str(if is_so { "yes" } else { "no" })
     }
 
-    fn answer_to<R: Net<Stream = TcpStream> + Clock + AllocGlobal>(
+    fn answer_to<R: Net<Stream = TcpStream> + Wait + Clock + AllocGlobal>(
         &self,
-        rt: &R,
+        caller: &Caller<'_, R>,
         bytes: &[u8],
     ) -> Option<Vec<u8>> {
-        let stream = sent(rt, self.port, bytes)?;
-        read_answer(rt, &stream)
+        let stream = sent(caller, self.port, bytes)?;
+        read_answer(caller, &stream)
     }
 
     /// Tells the answer to what was asked.
-    fn is_answered<R: Net<Stream = TcpStream> + Clock + AllocGlobal>(
+    fn is_answered<R: Net<Stream = TcpStream> + Wait + Clock + AllocGlobal>(
         &mut self,
-        rt: &R,
+        caller: &Caller<'_, R>,
         told: &mut String,
     ) -> Result<(), AllocError> {
         let answer = match self.asked.take() {
-            Some(stream) => read_answer(rt, &stream),
+            Some(stream) => read_answer(caller, &stream),
             None => None,
         };
         tell_answer(told, answer, true)
     }
 
     /// Does what the line says. Whether it says anything to an operator.
-    pub fn obeys<R: Net<Stream = TcpStream> + Clock + AllocGlobal>(
+    pub fn obeys<R: Net<Stream = TcpStream> + Wait + Clock + AllocGlobal>(
         &mut self,
-        rt: &R,
+        caller: &Caller<'_, R>,
         line: &str,
         told: &mut String,
     ) -> Result<bool, AllocError> {
         let (verb, rest) = first_word(line);
         match verb {
-            "get" | "until" => self.gets(rt, verb, rest, told)?,
+            "get" | "until" => self.gets(caller, verb, rest, told)?,
             "send" => {
-                let bytes = bytes_of(rt, rest)?;
-                tell_answer(told, self.answer_to(rt, &bytes), false)?;
+                let bytes = bytes_of(caller.alloc(), rest)?;
+                tell_answer(told, self.answer_to(caller, &bytes), false)?;
             }
             "ask" => {
-                let head = head_of(rt, rest)?;
-                self.asked = sent(rt, self.port, head.as_bytes());
+                let head = head_of(caller, rest)?;
+                self.asked = sent(caller, self.port, head.as_bytes());
             }
-            "answer" => self.is_answered(rt, told)?,
+            "answer" => self.is_answered(caller, told)?,
             _ => return Ok(false),
         }
         Ok(true)

@@ -1,17 +1,20 @@
 // Rows, line by line.
-use crate::lines::{add_line, add_printed};
-use crate::ringd::daemon::run;
-use crate::ringd::files::{bytes_of, obey};
-use crate::ringd::serving::serve;
-use crate::ringd::setting::{Setting, first_word};
+use crate::lines::{add_line, add_printed, first_word};
+use crate::ringd::caller::Caller;
+use crate::ringd::daemon::{Ended, sessions_in};
+use crate::ringd::files::{bytes_of, obey, tell_error};
+use crate::ringd::serving::{add_end, asked};
+use crate::ringd::setting::Setting;
+use ring_server::start;
 use std::alloc::{AllocError, AllocGlobal};
 use std::fs::File;
 use std::net::{Ipv4Addr, Net, TcpListener, TcpStream};
 use std::rt::Files;
+use std::str;
 use std::sync::Wait;
-use std::thread::Threads;
+use std::sync::atomic::{AtomicBool, Ordering};
+use std::thread::{Threads, join};
 use std::time::Clock;
-use std::{io, str};
 
 /// The ring of a row, with its settings; what is held beside it; and the lines of a ring that serves, from its words on.
 #[derive(Drop)]
@@ -22,11 +25,6 @@ struct Playing<'a, R> {
     file: Option<File>,
     port: Option<TcpListener>,
     serving: Vec<&'a str>,
-}
-
-/// Tells what does not go.
-fn tell_refused(told: &mut String, error: &io::Error) -> Result<(), AllocError> {
-    write!(told, "{error}")
 }
 
 impl<'a, R> Playing<'a, R>
@@ -66,7 +64,7 @@ where
                 self.file = Some(file);
                 Ok(())
             }
-            Err(error) => tell_refused(told, &error),
+            Err(error) => tell_error(told, &error),
         }
     }
 
@@ -78,17 +76,35 @@ where
                 self.port = Some(listener);
                 Ok(())
             }
-            Err(error) => tell_refused(told, &error),
+            Err(error) => tell_error(told, &error),
         }
+    }
+
+    /// Runs `ringd` to its end on these words and settings.
+    fn run(rt: &R, words: &str, settings: &[u8]) -> Result<Ended, AllocError> {
+        let alloc = rt.alloc();
+        let words: Vec<&str> = words.split(' ').collect(alloc)?;
+        let mut out = Vec::new(alloc);
+        let mut err = Vec::new(alloc);
+        let status = start(
+            rt,
+            alloc,
+            &words,
+            false,
+            &mut &*settings,
+            &mut out,
+            &mut err,
+        );
+        Ok(Ended { status, out, err })
     }
 
     /// Runs `ringd` to its end. Tells what it wrote to standard error, and with `shows` or `looks` before it to standard output.
     fn runs(&self, line: &str, told: &mut String) -> Result<(), AllocError> {
         let (verb, words) = first_word(line);
         match verb {
-            "shows" => run(self.rt, words, &self.settings)?.tell_whole(told),
-            "looks" => run(self.rt, words, &self.settings)?.tell_looked(told),
-            _ => run(self.rt, line, &self.settings)?.tell(told),
+            "shows" => Self::run(self.rt, words, &self.settings)?.tell_whole(told),
+            "looks" => Self::run(self.rt, words, &self.settings)?.tell_looked(told),
+            _ => Self::run(self.rt, line, &self.settings)?.tell(told),
         }
     }
 
@@ -98,7 +114,7 @@ where
         match verb {
             "ring" => self.rings(rest, told),
             "settings" => {
-                self.settings = bytes_of(self.rt, rest)?;
+                self.settings = bytes_of(self.rt.alloc(), rest)?;
                 Ok(())
             }
             "lock" => self.locks(rest, told),
@@ -118,9 +134,34 @@ where
         }
     }
 
+    /// Adds the lines that were gathered, with what comes of each: `ringd` with the words of the first serves while what stands
+    /// below it is asked.
+    fn serve(&self, end: &str, out: &mut Vec<u8>) -> Result<(), AllocError> {
+        let Some((first, lines)) = self.serving.split_first() else {
+            return Ok(());
+        };
+        add_line(out, b"", first.as_bytes())?;
+        let words = match first.strip_suffix(" &") {
+            Some(words) => words,
+            None => first,
+        };
+        let (rt, ring, settings) = (self.rt, self.ring, self.settings.as_slice());
+        let is_over = &AtomicBool::new(false);
+        let (told, ended) = join(
+            rt,
+            move || asked(&Caller::new(rt, is_over), ring, sessions_in(words), lines),
+            move || {
+                let ended = Self::run(rt, words, settings);
+                is_over.store(true, Ordering::SeqCst);
+                ended
+            },
+        );
+        add_end(rt.alloc(), out, &told?, end, &ended?)
+    }
+
     /// Plays the ring that serves, with the lines up to this one.
     fn serves(&mut self, end: &str, out: &mut Vec<u8>) -> Result<(), AllocError> {
-        serve(self.rt, self.ring, &self.settings, &self.serving, end, out)?;
+        self.serve(end, out)?;
         self.serving.clear();
         Ok(())
     }

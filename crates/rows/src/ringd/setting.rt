@@ -1,16 +1,9 @@
 // The ring of a row.
+use crate::lines::first_word;
 use std::alloc::{AllocError, Global};
 
 /// The capacity of a journal that a row says nothing of.
 const CAPACITY: u32 = 65_536;
-
-/// What stands before the first space of a text, and what stands behind it.
-pub fn first_word(text: &str) -> (&str, &str) {
-    match text.split_once(' ') {
-        Some(parts) => parts,
-        None => (text, ""),
-    }
-}
 
 /// How many nodes it has, its folder, the port of its first node, and the capacity of its journals.
 #[derive(Clone, Copy)]
