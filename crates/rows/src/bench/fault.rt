@@ -7,7 +7,7 @@ use std::alloc::AllocError;
 use thiserror::Error;
 
 /// Why a work ended early.
-#[derive(Clone, Copy, Debug, Error)]
+#[derive(Debug, Drop, Error)]
 pub enum Fault {
     /// The words ended within it.
     #[error("a word is missing")]
