@@ -178,8 +178,8 @@ class AioTest(unittest.IsolatedAsyncioTestCase, BesideStatus):
             while await waiters(ring, "red"):
                 await asyncio.sleep(0.005)
         # And where it is so while the ring is asked.
-        nodes[0].answer = nodes[1].answer = lambda line: time.sleep(0.5) or self.votes(line)
-        for delay in (0.1, 0.6, 1.1):
+        nodes[0].answer = nodes[1].answer = lambda line: time.sleep(1.0) or self.votes(line)
+        for delay in (0.1, 1.1, 2.1):
             task = asyncio.create_task(waits.acquire())
             await asyncio.sleep(delay)
             task.cancel()
