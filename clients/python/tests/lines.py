@@ -2,13 +2,25 @@
 import contextlib
 import os
 import random
+import signal
 import socket
 import socketserver
 import threading
 import time
+import unittest
 from collections.abc import Callable
 
 from cinoweta import Cancelled, Lock, Resigned
+
+
+def fork_idle(test: unittest.TestCase) -> None:
+    """Forks a child that does nothing until the test has ended."""
+    child = os.fork()
+    if child == 0:
+        time.sleep(30.0)
+        os._exit(0)
+    test.addCleanup(os.waitpid, child, 0)
+    test.addCleanup(os.kill, child, signal.SIGKILL)
 
 
 class Node(socketserver.ThreadingTCPServer):

@@ -2,7 +2,6 @@
 import asyncio
 import json
 import os
-import signal
 import threading
 import time
 import unittest
@@ -13,7 +12,7 @@ from cinoweta import (AlreadyStands, Election, Holder, Leader, Led, Lock, LockTa
 from cinoweta.aio import AsyncLock, AsyncRing, holder, waiters
 from cinoweta.waiting import is_there
 
-from .lines import Groups, Node, Votes, first, serve
+from .lines import Groups, Node, Votes, first, fork_idle, serve
 from .test_presence import Told
 from .test_ring import deaf
 from .test_status import BesideStatus
@@ -103,12 +102,7 @@ class AioTest(unittest.IsolatedAsyncioTestCase, BesideStatus):
     async def test_a_child_keeps_no_session_of_its_parent_open(self) -> None:
         ring, nodes = self.ring()
         await ring.stand("red", 1, 5)
-        child = os.fork()
-        if child == 0:
-            time.sleep(30.0)
-            os._exit(0)
-        self.addCleanup(os.waitpid, child, 0)
-        self.addCleanup(os.kill, child, signal.SIGKILL)
+        fork_idle(self)
         self.assertEqual(len(nodes[0].present), 1)
         ring.close()
         await self.until(lambda: not nodes[0].present)

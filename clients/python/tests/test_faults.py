@@ -19,7 +19,7 @@ from cinoweta.looks import Looks
 from cinoweta.process import run
 from cinoweta.waiting import HANDED, is_there
 
-from .lines import Groups, Node, Votes
+from .lines import Groups, Node, Votes, fork_idle
 from .test_ring import Beside, deaf
 
 PACKAGE = os.path.dirname(os.path.dirname(__file__))
@@ -192,12 +192,7 @@ class ForkTest(BesideLock):
         ring, nodes = self.votes_ring()
         ring.stand("red", 1, 5)
         self.assertEqual(len(nodes[0].present), 1)
-        child = os.fork()
-        if child == 0:
-            time.sleep(30.0)
-            os._exit(0)
-        self.addCleanup(os.waitpid, child, 0)
-        self.addCleanup(os.kill, child, signal.SIGKILL)
+        fork_idle(self)
         ring.close()
         self.until(lambda: not nodes[0].present)
 
