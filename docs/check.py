@@ -10,7 +10,7 @@ ROOT is the repository, by default the one that this file stands in. Nothing is 
   what crate, function or edit a name has to be;
 - what docs/promises.py prints of the sources: each public call with a contract has a comment, and each edit, a wrong
   body or a program that must not compile, has a line `says:`, and old texts that stand once in their files;
-- the README.md of each crate but those of tests and of rows and `bench`, which has 60 to 300 words;
+- the README.md of each crate but those of tests and of rows, which has 60 to 300 words;
 - every relative link of README.md, docs/*.md and each other README.md, its heading too, and every page of docs/ that
   one of them names;
 - the words of each page that MOST_WORDS names, and of all pages, of which there may be no more than is said there;

@@ -14,7 +14,7 @@ not run it. Looked at are the files that git tracks. The columns are
 - clauses, most, 200: clauses of all functions, of the one that has the most, and those that are longer than 200 characters;
 - uncited: definitions and lemmas, but for those in the proof of one function, that nothing else names.
 
-Crates of tests and of rows and `bench` count in the first two columns alone. Below the table stands how many lines of definitions a reader
+Crates of tests and of rows count in the first two columns alone. Below the table stands how many lines of definitions a reader
 has to believe behind a promise: those of all modules of specs/ that the file with its contract imports, and that these import; with
 `--files`, which modules these are. Modules named Props are left out, since they prove that a fact has one proof at most, and define nothing."""
 
@@ -28,7 +28,7 @@ from dataclasses import dataclass, fields
 MOST_PARAMETERS = 7
 MOST_LINES = 40
 MOST_LENGTH = 200
-ASIDE = re.compile(r"_tests$|rows$|^bench$")
+ASIDE = re.compile(r"_tests$|rows$")
 WORD = re.compile(r"[\w'-]+")
 DECLARED = re.compile(r"(?:(?:unfoldable|abbrev|pub|data|record)\s+)*([\w'-]+)\b")
 IMPORTED = re.compile(r"Rattle\.(\w+)\.specs\.([\w.]+)")

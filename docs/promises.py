@@ -5,7 +5,7 @@
 
 The first table of a crate has each public call with a contract: the first sentence of its comment, and the names of its conditions and
 clauses. A clause without a name is `its clause`. The second has each wrong body: the function that its edit stands in, and the line `says:`
-of the edit. Crates of tests and of rows and `bench` have the second alone. Behind the tables stands the README.md of the crate.
+of the edit. Crates of tests and of rows have the second alone. Behind the tables stands the README.md of the crate.
 
 `make docs` writes all of it to bin/promises.md. docs/check.py prints the faults: a call without a comment, an edit without `says:`, and one
 of which an old text does not stand once in its file."""
@@ -17,7 +17,7 @@ from dataclasses import dataclass, field
 from typing import Iterator
 
 ROOT = pathlib.Path(__file__).resolve().parent.parent
-ASIDE = re.compile(r"_tests$|rows$|^bench$")
+ASIDE = re.compile(r"_tests$|rows$")
 FUNCTION = re.compile(r"^(\s*)(pub(?:\([^)]*\))?\s+)?(?:const\s+)?(?:unsafe\s+)?fn\s+(\w+)")
 CLAUSE = re.compile(r"^\s*(requires|ensures)\s*(\w+)?\s*\{")
 BLOCK = re.compile(r"^(?:unsafe\s+)?(?:impl|pub trait|trait)\b")

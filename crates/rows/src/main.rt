@@ -1,8 +1,9 @@
-//! `rows KIND FILE ..` plays the rows of each file as the kind before it says, `console`, `node`, `ringd`, `session` or
-//! `settings`, and prints them with what they print now: rows that hold are printed as they were read. README.md tells their
+//! `rows KIND FILE ..` plays the rows of each file as the kind before it says, `bench`, `console`, `node`, `ringd`,
+//! `session` or `settings`, and prints them with what they print now: rows that hold are printed as they were read. README.md tells their
 //! form. Where a file is not played, why stands on standard error, and the status is 1, or 2 where the words are wrong.
 #![tactic(auto)]
 
+mod bench;
 mod console;
 mod kind;
 mod lines;
@@ -14,7 +15,7 @@ mod session;
 mod settings;
 
 use crate::kind::Kind;
-use crate::program::{played_in_memory, print, read_all, refuse};
+use crate::program::{print, read_all, refuse};
 use std::process::ExitCode;
 
 fn main(rt: HostRuntime) -> ExitCode {
@@ -24,7 +25,8 @@ fn main(rt: HostRuntime) -> ExitCode {
     };
     for rows in &all {
         let played = match rows.kind {
-            Kind::InMemory(kind) => played_in_memory(rt.alloc(), kind, &rows.text),
+            Kind::Bench => bench::played(&rt, &rt, &rows.text),
+            Kind::InMemory(kind) => kind.played(rt.alloc(), &rows.text),
             Kind::Ringd => ringd::played(&rt, &rows.text),
         };
         if let Err(fault) = print(&rt, played) {

@@ -1,9 +1,9 @@
 // Files of rows, one by one.
 ghost use Rattle.std.specs.Prelude.{◌≤◌, length, IfOk};
 
-use crate::kind::{InMemory, Kind};
+use crate::kind::Kind;
 use line_words::write_whole;
-use std::alloc::{AllocError, Global};
+use std::alloc::AllocError;
 use std::process::ExitCode;
 use std::{env, fs, io};
 use thiserror::Error;
@@ -15,7 +15,7 @@ const ROWS_BYTES: usize = 1_000_000;
 #[derive(Clone, Copy, Debug, Error)]
 pub enum RowsFault {
     /// A word is no kind, or no file stands behind one.
-    #[error("usage: rows KIND FILE .., a KIND being console, node, ringd, session or settings")]
+    #[error("usage: rows KIND FILE .., a KIND being bench, console, node, ringd, session or settings")]
     Words,
     /// The file cannot be read.
     #[error("rows cannot be read")]
@@ -31,11 +31,12 @@ pub enum RowsFault {
     Memory,
 }
 
-/// The rows of a file, and what they ask.
+/// The rows of a file, 1,000,000 bytes at most, and what they ask.
 #[derive(Drop)]
 pub struct Rows {
     pub kind: Kind,
     pub text: Vec<u8>,
+    ghost bounded: { length text.items ≤ 1000000 },
 }
 
 fn read_rows(rt: &HostRuntime, path: &str) -> Result<Vec<u8>, RowsFault>
@@ -72,14 +73,6 @@ pub fn read_all(rt: &HostRuntime) -> Result<Vec<Rows>, RowsFault> {
         all.push(rows).map_err(|_| RowsFault::Memory)?;
     }
     Ok(all)
-}
-
-/// The rows of what is in memory, with what their lines print now.
-pub fn played_in_memory(alloc: Global, kind: InMemory, rows: &[u8]) -> Result<Vec<u8>, AllocError> {
-    if rows.len() > ROWS_BYTES {
-        return Ok(Vec::new(alloc));
-    }
-    kind.played(alloc, rows)
 }
 
 /// Prints rows, as they were played.
