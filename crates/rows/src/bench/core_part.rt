@@ -1,10 +1,10 @@
 // One node that accepts inputs over many keys, with half of what it sent in its window; and one that retires terms.
 use crate::bench::fault::Fault;
 use crate::bench::keys::{group, key};
-use crate::bench::words::{Words, amount, tell};
+use crate::bench::words::{Words, amount};
 use node_core::NodeCore;
 use ring_records::{Bid, Candidate, GroupName, Input, Key, Msg, NodeNo, Refusal, Term};
-use std::alloc::Global;
+use std::alloc::{AllocError, Global};
 
 /// `INPUTS`: has the node accept so many, and prints its counts. `retire TERMS FLOOR`: has one that knows the leaders of
 /// so many terms of one group retire those below the floor, none where that is 0, and prints the same.
@@ -17,7 +17,8 @@ pub fn run(rt: &HostRuntime, words: &mut Words<'_>, told: &mut String) -> Result
     };
     let printed = tell_counts(told, &core, decided);
     drop(core);
-    printed
+    printed?;
+    Ok(())
 }
 
 // A node that accepted as many inputs as the word says.
@@ -33,16 +34,16 @@ fn retire_next(alloc: Global, words: &mut Words<'_>) -> Result<(NodeCore, u32), 
     Ok(retire(alloc, terms, floor)?)
 }
 
-fn tell_counts(told: &mut String, core: &NodeCore, decided: u32) -> Result<(), Fault> {
-    tell(told, "inputs", core.inputs())?;
-    tell(told, "used", core.used())?;
-    tell(told, "stands", u64::from(core.stands()))?;
-    tell(told, "taken", core.taken())?;
-    tell(told, "sent", core.sent())?;
-    tell(told, "credit", core.credit())?;
-    tell(told, "window", core.window().len() as u64)?;
-    tell(told, "snapshot", core.summary_len())?;
-    tell(told, "decided", u64::from(decided))
+fn tell_counts(told: &mut String, core: &NodeCore, decided: u32) -> Result<(), AllocError> {
+    writeln!(told, "inputs {}", core.inputs())?;
+    writeln!(told, "used {}", core.used())?;
+    writeln!(told, "stands {}", core.stands())?;
+    writeln!(told, "taken {}", core.taken())?;
+    writeln!(told, "sent {}", core.sent())?;
+    writeln!(told, "credit {}", core.credit())?;
+    writeln!(told, "window {}", core.window().len())?;
+    writeln!(told, "snapshot {}", core.summary_len())?;
+    writeln!(told, "decided {decided}")
 }
 
 // A node that accepted so many inputs, and how many elections they decided.

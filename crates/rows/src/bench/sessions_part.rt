@@ -60,16 +60,19 @@ fn write_line(text: &mut String, no: u32) -> Result<(), Fault> {
 fn hold(alloc: Global, text: &str, sessions: u32) -> Result<(u64, u64), Fault> {
     let (mut answered, mut written) = (0u64, 0u64);
     for _ in 0..sessions {
-        let (lines, bytes) = session(alloc, text)?;
+        let (lines, bytes) = session(alloc, text, service(alloc)?)?;
         answered = answered.saturating_add(lines);
         written = written.saturating_add(bytes);
     }
     Ok((answered, written))
 }
 
-/// One session. Tells how many lines were answered, and how many bytes were written.
-fn session(alloc: Global, text: &str) -> Result<(u64, u64), Fault> {
-    let mut service = service(alloc)?;
+/// One session with the service. Tells how many lines were answered, and how many bytes were written.
+fn session(
+    alloc: Global,
+    text: &str,
+    mut service: SoloService<MemDevice>,
+) -> Result<(u64, u64), Fault> {
     let mut reader = text.as_bytes();
     let mut out = Vec::new(alloc);
     let answered = serve(alloc, &mut reader, &mut out, &mut service);
