@@ -16,7 +16,7 @@ from .kinds import Election, Holder, Led, Waiter
 from .pause import Pause
 from .presence import ABSENT, Presence
 from .showing import SHOWERS, Shown
-from .waiting import ENDED, GONE, GRACE, HANDED, KEPT, OVER, Line, ask, holder_of
+from .waiting import ENDED, GONE, GRACE, HANDED, KEPT, OVER, Line, ask, holder_of, is_seen
 
 # For so many terms a campaign stands at most, and so long it waits in each, in seconds.
 TERMS, SECONDS = 3, 5.0
@@ -277,7 +277,7 @@ class Locking:
             await self.require_kind(asks, known, is_present)
         if self.across:
             return is_present
-        return await ask(asks, bid, str(bid), self.patience) == [str(bid)]
+        return await is_seen(asks, bid, self.patience)
 
     async def require_kind(self, asks: Asking, known: Led, is_present: bool) -> None:
         """`WrongRing` where who leads so is of the other kind, and there, as far as anything tells. Who is present, has
@@ -285,7 +285,7 @@ class Locking:
         bid, how = known.leader.bid, "on one host, and this client is told to hold it across hosts"
         if self.across:
             is_wrong = not presence.is_across(bid) and (
-                await ask(asks, bid, str(bid), self.patience) == [str(bid)] if is_own(asks.host) else not is_present)
+                await is_seen(asks, bid, self.patience) if is_own(asks.host) else not is_present)
         else:
             is_wrong = presence.is_across(bid) and (is_present or asks.status is None)
             how = "across hosts, and this client is not told to"

@@ -1,5 +1,6 @@
 """Who waits for a lock on the ring's host asks the holder's beacon whether it is there, and keeps a place in its line."""
 import contextlib
+import errno
 import os
 import threading
 import time
@@ -14,6 +15,8 @@ from .steps import at_once
 # Behind a fault a beacon is asked again so soon at first, in seconds: of a process that ends, what it listens at may be
 # closed a moment later than what it was connected to.
 SOON = 0.002
+# Of a fault that says that something is wanting here, and nothing of who is asked.
+WANTING = {errno.EMFILE, errno.ENFILE, errno.ENOBUFS, errno.ENOMEM, errno.EADDRNOTAVAIL}
 # Who leaves a client sooner, in seconds, is the beacon of another bid.
 SOONER = 0.4
 # So often a beacon is asked over a connection that is kept, in seconds.
@@ -36,24 +39,36 @@ class Here:
 
 
 async def ask(asks: Asking | Here, bid: int, line: str, seconds: float) -> list[str]:
-    """The lines that the beacon of this bid answers to one within so many seconds; none where it does not. Behind a fault
-    that does not say that there is none, as where a descriptor is wanting here, it is asked again."""
-    until, pause = time.monotonic() + seconds, SOON
+    """The lines that the beacon of this bid answers to one within so many seconds; none where it does not."""
+    return (await answer(asks, bid, line, seconds))[0]
+
+
+async def is_seen(asks: Asking | Here, bid: int, seconds: float) -> bool:
+    """Whether who stood with this bid answers within so many seconds, or could not be asked for so long."""
+    lines, is_asked = await answer(asks, bid, str(bid), seconds)
+    return lines == [str(bid)] or not is_asked
+
+
+async def answer(asks: Asking | Here, bid: int, line: str, seconds: float) -> tuple[list[str], bool]:
+    """The lines that the beacon of this bid answers to one within so many seconds, and whether it was asked for so long. Behind
+    a fault that does not say that there is none, it is asked again."""
+    until, pause, is_asked = time.monotonic() + seconds, SOON, True
     while True:
         try:
-            return await ask_once(asks, bid, line, until)
+            return await ask_once(asks, bid, line, until), True
         except (ConnectionRefusedError, OverflowError):
             # A bid that no beacon made may name a port that there is not, which is an OverflowError.
-            return []
-        except OSError:
+            return [], True
+        except OSError as fault:
+            is_asked = is_asked and fault.errno not in WANTING
             if time.monotonic() + pause > until:
-                return []
+                return [], is_asked
         await asks.sleep(pause)
         pause = min(2 * pause, PAUSE)
 
 
 async def ask_once(asks: Asking | Here, bid: int, line: str, until: float) -> list[str]:
-    """`ask`, over one connection."""
+    """The same lines, over one connection."""
     # From here on, so that a pause of this process makes no end an early one.
     begun, lines = time.monotonic(), list[str]()
     link = await asks.link(port_of(bid), until - begun)
@@ -74,8 +89,8 @@ async def ask_once(asks: Asking | Here, bid: int, line: str, until: float) -> li
 
 
 def is_there(bid: int, seconds: float) -> bool:
-    """Whether who stood with this bid answers within so many seconds."""
-    return at_once(ask(Here(), bid, str(bid), seconds)) == [str(bid)]
+    """`is_seen`, for a thread."""
+    return at_once(is_seen(Here(), bid, seconds))
 
 
 async def holder_of(asks: Asking | Here, known: Led, seconds: float) -> Holder | None:

@@ -1,5 +1,6 @@
 """A Lock beside servers of lines that answer as they are told."""
 import contextlib
+import errno
 import io
 import os
 import pty
@@ -13,10 +14,11 @@ import time
 import unittest
 from unittest import mock
 
-from cinoweta import Holder, Leader, Lock, LockTaken, NoAnswer, NoLeader, Ring, holder
+from cinoweta import Holder, Leader, Led, Lock, LockTaken, NoAnswer, NoLeader, Ring, holder
 from cinoweta.beacon import SPREAD, Beacon, port_of
 from cinoweta.command import main
-from cinoweta.waiting import is_there
+from cinoweta.steps import at_once
+from cinoweta.waiting import Here, holder_of, is_there
 
 from .lines import Node, Votes, in_a_child
 from .test_ring import Beside, deaf
@@ -327,6 +329,18 @@ class BeaconTest(unittest.TestCase):
 
         with mock.patch("socket.create_connection", side_effect=falters):
             self.assertTrue(is_there(beacon.bid, 1.0))
+
+    def test_who_could_not_be_asked_is_not_gone(self) -> None:
+        beacon = Beacon(0, "")
+        led = Led(1, Leader(1, beacon.bid))
+        with mock.patch("socket.create_connection", side_effect=OSError(errno.EMFILE, "Too many open files")):
+            self.assertTrue(is_there(beacon.bid, 0.2))
+            self.assertIsNone(at_once(holder_of(Here(), led, 0.2)))
+        beacon.close()
+        # Once it may be asked, it is seen that it is not there; and others are silent by themselves.
+        self.assertFalse(is_there(beacon.bid, 0.2))
+        with mock.patch("socket.create_connection", side_effect=TimeoutError("timed out")):
+            self.assertFalse(is_there(beacon.bid, 0.2))
 
     def test_who_asked_late_asks_again(self) -> None:
         server = socket.create_server(("127.0.0.1", 0))
