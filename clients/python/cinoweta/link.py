@@ -59,14 +59,13 @@ class Stop:
 
 
 def connect(host: str, port: int, seconds: float) -> socket.socket:
-    """A connection to who listens there. `OSError` where nobody does at any of its addresses, each of which has the time
-    that its name left."""
+    """A connection to who listens there, within so many seconds. `OSError` where nobody does at any of its addresses: each has
+    its part of the time that those before it left."""
     until, faults = time.monotonic() + seconds, list[OSError]()
     addresses = look_up(host, seconds)
-    left = max(0.001, until - time.monotonic())
-    for each in addresses:
+    for place, each in enumerate(addresses):
         try:
-            return connect_to(each, port, left)
+            return connect_to(each, port, max(0.001, (until - time.monotonic()) / (len(addresses) - place)))
         except OSError as fault:
             faults.append(fault)
     raise faults[-1]

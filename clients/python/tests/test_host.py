@@ -4,6 +4,8 @@ import contextlib
 import io
 import json
 import pathlib
+import socket
+import time
 import unittest
 from unittest import mock
 
@@ -11,6 +13,7 @@ from cinoweta import Leader, Led, Lock, NoAnswer, NoLeader, Ring, WrongRing, hol
 from cinoweta.aio import AsyncRing
 from cinoweta.command import main
 from cinoweta.host import is_own, place
+from cinoweta.link import connect
 
 from .lines import Votes
 from .test_ring import Beside, deaf
@@ -104,6 +107,25 @@ class HostTest(Beside, BesideStatus):
         ring, _ = self.ring(votes, votes, host="::1")
         port = self.serve({"/health": (503, "node 2 failed\n")}, "::1")
         self.assertEqual(asyncio.run(asked()), (Led(20, Leader(2, 30)), ["node 2 failed"]))
+
+    def test_the_addresses_of_a_name_share_the_time(self) -> None:
+        given = list[float]()
+
+        def silent(_place: tuple[str, int], seconds: float) -> socket.socket:
+            given.append(seconds)
+            if len(given) == 1:
+                raise ConnectionRefusedError("Connection refused")
+            time.sleep(seconds)
+            raise TimeoutError("timed out")
+
+        before = time.monotonic()
+        with mock.patch("cinoweta.link.look_up", return_value=["10.0.0.5", "10.0.0.6", "10.0.0.7"]), \
+                mock.patch("socket.create_connection", side_effect=silent), self.assertRaises(TimeoutError):
+            connect("ring.example", 7101, 0.6)
+        self.assertLess(time.monotonic() - before, 1.0)
+        # Who refuses at once leaves its part to the others.
+        for seconds, wanted in zip(given, (0.2, 0.3, 0.3), strict=True):
+            self.assertAlmostEqual(seconds, wanted, delta=0.1)
 
     def test_what_is_left_out(self) -> None:
         self.assertEqual([Ring(7101, 7103).host, Ring.parse("7101-7103").host], ["127.0.0.1"] * 2)
