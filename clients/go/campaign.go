@@ -20,7 +20,7 @@ const (
 	lastTerm = 999_999_999
 	// So long who leads waits for a node that is to retire the others.
 	retireLimit = time.Second
-	// So long is waited where a lock is tried once, and for what the status port tells of nodes that are not well.
+	// So long a try for a lock has at least. So long is waited for what the status port tells of nodes that are not well.
 	tryLimit, faultsLimit = 2 * time.Second, time.Second
 )
 
@@ -147,10 +147,14 @@ func (c *campaign) run(ctx context.Context) (Election, error) {
 	return c.end(ctx, known)
 }
 
-// runOnce gives the same within tryLimit: else a [NoLeaderError], or a [NoAnswerError] where no node answered.
-func (c *campaign) runOnce(ctx context.Context) (Election, error) {
+// runUntil gives the same until then, or as long as it takes where that is zero: else a [NoLeaderError], or a
+// [NoAnswerError] where no node answered.
+func (c *campaign) runUntil(ctx context.Context, until time.Time) (Election, error) {
+	if until.IsZero() {
+		return c.run(ctx)
+	}
 	begun := time.Now()
-	limited, cancel := context.WithTimeout(ctx, tryLimit)
+	limited, cancel := context.WithDeadline(ctx, until)
 	defer cancel()
 	election, err := c.run(limited)
 	silent, isSilent := err.(*NoAnswerError)

@@ -152,7 +152,7 @@ func (e *NoLeaderError) Error() string {
 type LockTakenError struct {
 	Group  string
 	Holder Holder
-	// Err is the error of the context that was over, or nil where the lock was tried once.
+	// Err is the error of the context that was over, or nil where that of TryAcquire and AcquireWithin was not.
 	Err error
 }
 

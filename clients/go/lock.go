@@ -118,11 +118,18 @@ func (l *Lock) Acquire(ctx context.Context) error {
 // TryAcquire acquires the lock, unless another process holds it: a [LockTakenError]. A ring that is away, or elects nobody,
 // has two seconds for it: then a [NoAnswerError] or a [NoLeaderError].
 func (l *Lock) TryAcquire(ctx context.Context) error {
+	return l.AcquireWithin(ctx, 0)
+}
+
+// AcquireWithin waits for so long at most until this process leads: then the errors are those of TryAcquire, and none of a
+// context. A try that began has two seconds, and longer until a holder that does not answer is gone. So what is asked
+// within a short wait comes to its end, which the context of Acquire would cut off.
+func (l *Lock) AcquireWithin(ctx context.Context, wait time.Duration) error {
 	ctx, leave := context.WithCancel(ctx)
 	defer leave()
-	never, cancel := context.WithCancel(ctx)
-	cancel()
-	return l.acquire(ctx, never, leave)
+	waits, cancel := context.WithTimeout(ctx, wait)
+	defer cancel()
+	return l.acquire(ctx, waits, leave)
 }
 
 // Run acquires the lock, has work done with the term in which it is held, and resigns. The context of the work ends
@@ -292,11 +299,7 @@ func (l *Lock) contend(ctx, waits context.Context, campaign *campaign) (Led, err
 	}
 	for {
 		// Where the ring came to no leader before, these are the same Stands, and take no room again.
-		run := campaign.run
-		if waits.Err() != nil {
-			run = campaign.runOnce
-		}
-		election, err := run(ctx)
+		election, err := campaign.runUntil(ctx, tryEnd(waits))
 		if err == nil && election.IsMine {
 			err = l.sign.show(ctx, election.Led)
 		} else if err == nil {
@@ -314,7 +317,7 @@ func (l *Lock) contend(ctx, waits context.Context, campaign *campaign) (Led, err
 				ends++
 				sleep(ctx, time.Duration(greater(0, olderEnds-ends))*l.older)
 			}
-		case isPassing(err) && pause.take(waits, l.ring):
+		case isPassing(err) && ended(waits) == nil && pause.take(waits, l.ring):
 			if text := err.Error(); text != told {
 				told = text
 				l.tell("waits for the ring: " + text)
@@ -322,6 +325,21 @@ func (l *Lock) contend(ctx, waits context.Context, campaign *campaign) (Led, err
 		default:
 			return Led{}, err
 		}
+	}
+}
+
+// tryEnd is when a try that begins now is to end: not before its two seconds are over, nor before the context is; never where
+// that has no end.
+func tryEnd(waits context.Context) time.Time {
+	least := time.Now().Add(tryLimit)
+	until, hasOne := waits.Deadline()
+	switch {
+	case hasOne && until.After(least):
+		return until
+	case hasOne || waits.Err() != nil:
+		return least
+	default:
+		return time.Time{}
 	}
 }
 

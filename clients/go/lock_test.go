@@ -4,6 +4,7 @@ import (
 	"context"
 	"errors"
 	"fmt"
+	"net"
 	"os"
 	"regexp"
 	"sort"
@@ -346,6 +347,49 @@ func TestATryTakesTwoSecondsAtMost(t *testing.T) {
 	ctx, cancel := context.WithTimeout(background(t), 100*time.Millisecond)
 	defer cancel()
 	is(t, lock.TryAcquire(ctx), context.DeadlineExceeded)
+}
+
+func TestALockIsAcquiredWithinATime(t *testing.T) {
+	ring, _, votes := elected(t)
+	holder := lockOf(t, ring, LockOptions{})
+	must(t, holder.Acquire(background(t)))
+	other := lockOf(t, ring, LockOptions{})
+	before := time.Now()
+	taken := as[*LockTakenError](t, other.AcquireWithin(background(t), 300*time.Millisecond))
+	took := time.Since(before)
+	same(t, []any{taken.Holder.Term, taken.Err, took >= 300*time.Millisecond, took < time.Second}, []any{1, nil, true, true})
+	// The context of who calls ends it before.
+	ctx, cancel := context.WithTimeout(background(t), 100*time.Millisecond)
+	defer cancel()
+	is(t, other.AcquireWithin(ctx, time.Minute), context.DeadlineExceeded)
+	time.AfterFunc(100*time.Millisecond, holder.Resign)
+	must(t, other.AcquireWithin(background(t), time.Minute))
+	same(t, []int{other.Term(), len(votes.stood)}, []int{2, 2})
+}
+
+func TestAHolderThatIsSilentIsOutwaitedByAShortWait(t *testing.T) {
+	ring, _, votes := elected(t)
+	votes.lead(1, 1, serverOf(t, func(net.Conn) { time.Sleep(2 * time.Second) }))
+	lock := lockOf(t, ring, LockOptions{})
+	before := time.Now()
+	must(t, lock.AcquireWithin(background(t), 50*time.Millisecond))
+	same(t, []any{lock.Term(), time.Since(before) >= 400*time.Millisecond}, []any{2, true})
+}
+
+func TestARingHasTheWaitOfWhoAcquires(t *testing.T) {
+	ring, nodes, _ := elected(t)
+	ring.Timeout = DefaultTimeout
+	for _, node := range nodes {
+		node.is(never(t))
+	}
+	for _, row := range []struct{ wait, least time.Duration }{{100 * time.Millisecond, 2 * time.Second}, {3 * time.Second, 3 * time.Second}} {
+		before := time.Now()
+		err := lockOf(t, ring, LockOptions{}).AcquireWithin(background(t), row.wait)
+		as[*NoAnswerError](t, err)
+		took := time.Since(before)
+		same(t, []bool{took >= row.least, took < row.least+time.Second}, []bool{true, true})
+		same(t, errors.Is(err, context.DeadlineExceeded), false)
+	}
 }
 
 func TestALockIsLostOnceAGreaterTermIsKnown(t *testing.T) {
