@@ -171,6 +171,8 @@ type LockLostError struct {
 	Group string
 	// Term is the one in which the lock was held.
 	Term int
+	// Later is the greater term that is known; 0 where the lock is lost for another cause.
+	Later int
 	// GaveUp says that no node that could tell answered for as long as the lock's options say.
 	GaveUp bool
 	// Err is what the work ended with, or nil.

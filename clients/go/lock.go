@@ -81,9 +81,10 @@ type Lock struct {
 	// The term in which it leads or led, the greatest one that is over for it, and the number above which it stands.
 	term, gone, above int
 	// When the ring was asked last, and when that was which a node answered that could tell of a greater term; whether the
-	// lock is lost for want of such an answer.
+	// lock is lost for want of such an answer, and the greater term for which it is lost, if it is for that.
 	asked, heard time.Time
 	hasGivenUp   bool
+	later        int
 }
 
 // NewLock gives the lock of the group, which is not held yet.
@@ -138,6 +139,11 @@ func (l *Lock) Run(ctx context.Context, work func(ctx context.Context, term int)
 	if err := l.Acquire(ctx); err != nil {
 		return err
 	}
+	return l.RunHeld(ctx, work)
+}
+
+// RunHeld does the same with a lock that was acquired before, as by AcquireWithin.
+func (l *Lock) RunHeld(ctx context.Context, work func(ctx context.Context, term int) error) error {
 	defer l.Resign()
 	held, cancel := context.WithCancel(ctx)
 	defer cancel()
@@ -225,7 +231,7 @@ func (l *Lock) settle(led Led, asked time.Time, err error) error {
 		l.sign = nil
 		return err
 	}
-	l.isHeld, l.hasGivenUp, l.term = true, false, led.Term
+	l.isHeld, l.hasGivenUp, l.later, l.term = true, false, 0, led.Term
 	l.asked, l.heard = time.Now(), asked
 	if l.ring.Status != 0 && !l.isAcross() {
 		place := showPlace{l.ring.Host, l.ring.first, l.ring.Status, led.Leader.Node}

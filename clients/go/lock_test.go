@@ -598,14 +598,39 @@ func TestWorkEndsOnceTheLockIsLost(t *testing.T) {
 	}
 	err := work(func() { votes.lead(9, 2, 5) })
 	lost := as[*LockLostError](t, err)
-	same(t, []any{lost.Group, lost.Term, lost.Err}, []any{"red", 1, context.Canceled})
+	same(t, []any{lost.Group, lost.Term, lost.Later, lost.Err}, []any{"red", 1, 9, context.Canceled})
 	same(t, err, "cinoweta: red: the lock of term 1 is lost")
-	same(t, as[*LockLostError](t, work(func() { lock.ResignAbove(20) })).Term, 10)
+	lost = as[*LockLostError](t, work(func() { lock.ResignAbove(20) }))
+	same(t, []int{lost.Term, lost.Later}, []int{10, 0})
 	as[*WrongRingError](t, work(func() {
 		nodes[0].is(always("HTTP/1.1 400"))
 		nodes[1].is(always("HTTP/1.1 400"))
 	}))
 	same(t, lock.Term(), 21)
+}
+
+func TestALockThatIsHeldAlreadyIsHeldWhileItsWorkRuns(t *testing.T) {
+	ring, _, votes := elected(t)
+	lock := lockOf(t, ring, LockOptions{})
+	lock.every = 50 * time.Millisecond
+	failed := errors.New("the work failed")
+	must(t, lock.AcquireWithin(background(t), 0))
+	same(t, lock.RunHeld(background(t), func(ctx context.Context, term int) error {
+		same(t, []any{term, holds(t, lock)}, []any{1, true})
+		return failed
+	}), failed)
+	same(t, holds(t, lock), false)
+	must(t, lock.AcquireWithin(background(t), 0))
+	same(t, as[*LockLostError](t, lock.RunHeld(background(t), func(ctx context.Context, _ int) error {
+		votes.lead(9, 2, 5)
+		<-ctx.Done()
+		return nil
+	})).Later, 9)
+	// One that is not held is lost.
+	same(t, as[*LockLostError](t, lock.RunHeld(background(t), func(ctx context.Context, _ int) error {
+		<-ctx.Done()
+		return nil
+	})).Term, 2)
 }
 
 func TestWorkEndsWithTheContextOfItsCaller(t *testing.T) {

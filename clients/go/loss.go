@@ -73,6 +73,7 @@ func (l *Lock) look(ctx context.Context) error {
 	case !l.isHeld:
 		// It was given back meanwhile, and who waits for it anew goes on.
 	case isKnown && known.Term > l.term:
+		l.later = known.Term
 		l.resign(0)
 	case isKnown && known.Term == l.term:
 		l.heard = begun
@@ -113,7 +114,7 @@ func (l *Lock) awaitLoss(ctx context.Context) error {
 		if isLost {
 			l.mutex.Lock()
 			defer l.mutex.Unlock()
-			return &LockLostError{Group: l.group, Term: l.term, GaveUp: l.hasGivenUp}
+			return &LockLostError{Group: l.group, Term: l.term, Later: l.later, GaveUp: l.hasGivenUp}
 		}
 		if err != nil && ctx.Err() == nil {
 			return err
