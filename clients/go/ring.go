@@ -107,15 +107,24 @@ func RingFromEnv() (*Ring, error) {
 	if text == "" {
 		return ring, nil
 	}
-	host, port, err := placeOf(text, ring.Host)
-	if err == nil && !isSameHost(host, ring.Host) {
-		err = &WrongRingError{fmt.Sprintf("%s: the ring is one of %s", text, ring.Host)}
-	}
-	if err != nil {
+	if err := ring.SetStatus(text); err != nil {
 		return nil, fmt.Errorf("CINOWETA_STATUS: %w", err)
 	}
-	ring.Status = port
 	return ring, nil
+}
+
+// SetStatus sets Status by a text as 7100, or as 10.0.0.5:7100 or [fd00::5]:7100 with the ring's own host: else a
+// [WrongRingError].
+func (r *Ring) SetStatus(text string) error {
+	host, port, err := placeOf(text, r.Host)
+	if err != nil {
+		return err
+	}
+	if !isSameHost(host, r.Host) {
+		return &WrongRingError{fmt.Sprintf("%s: the ring is one of %s", text, hostOf(r.Host))}
+	}
+	r.Status = port
+	return nil
 }
 
 // Nodes is how many nodes the ring has.

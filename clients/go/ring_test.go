@@ -349,6 +349,19 @@ func TestRingFromEnv(t *testing.T) {
 	}
 }
 
+func TestTheStatusPortOfARing(t *testing.T) {
+	ring, err := NewRing(7101, 7103)
+	must(t, err)
+	same(t, ring.SetStatus("10.0.0.5:7100"), "cinoweta: 10.0.0.5:7100: the ring is one of 127.0.0.1")
+	same(t, as[*WrongRingError](t, ring.SetStatus("")).Text, `"": a port is told as 7100, or as 10.0.0.5:7100`)
+	same(t, ring.Status, 0)
+	must(t, ring.SetStatus("7100"))
+	ring.Host = "fd00::5"
+	must(t, ring.SetStatus("[fd00::5]:7200"))
+	as[*WrongRingError](t, ring.SetStatus("[fd00::6]:7300"))
+	same(t, ring.Status, 7200)
+}
+
 func TestLinesThatAreNone(t *testing.T) {
 	ring, nodes := beside(t, newVotes().answer, deaf)
 	if _, _, err := ring.Latest(background(t), "red\nstand red 1 1", AnyNode); err == nil {
