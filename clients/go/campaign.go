@@ -15,6 +15,8 @@ const (
 	DefaultWait = 5 * time.Second
 	// DefaultKeep is how many terms below its own who leads keeps.
 	DefaultKeep = 2
+	// KeepNone, in place of such a number, has who leads keep no term below its own.
+	KeepNone = -1
 
 	// The greatest term.
 	lastTerm = 999_999_999
@@ -36,7 +38,7 @@ type CampaignOptions struct {
 	Terms int
 	// Wait is how long it waits in each; DefaultWait where it is 0.
 	Wait time.Duration
-	// Keep is how many terms below its own are kept; DefaultKeep where it is 0.
+	// Keep is how many terms below its own are kept; DefaultKeep where it is 0, and none where it is KeepNone.
 	Keep int
 }
 
@@ -81,7 +83,7 @@ func newCampaign(ring *Ring, group string, bid int, how CampaignOptions) (*campa
 	if err := ring.require(how.Node); err != nil {
 		return nil, err
 	}
-	if how.Gone < 0 || how.Terms < 0 || how.Wait < 0 || how.Keep < 0 {
+	if how.Gone < 0 || how.Terms < 0 || how.Wait < 0 || how.Keep < KeepNone {
 		return nil, errors.New("cinoweta: no number of a campaign is negative")
 	}
 	places, err := placesOf(ring, how.Node)
@@ -89,7 +91,7 @@ func newCampaign(ring *Ring, group string, bid int, how CampaignOptions) (*campa
 	return made, err
 }
 
-// whole has the defaults in place of each 0.
+// whole has the defaults in place of each 0, and 0 in place of KeepNone.
 func (o CampaignOptions) whole() CampaignOptions {
 	if o.Terms == 0 {
 		o.Terms = DefaultTerms
@@ -97,8 +99,11 @@ func (o CampaignOptions) whole() CampaignOptions {
 	if o.Wait == 0 {
 		o.Wait = DefaultWait
 	}
-	if o.Keep == 0 {
+	switch o.Keep {
+	case 0:
 		o.Keep = DefaultKeep
+	case KeepNone:
+		o.Keep = 0
 	}
 	return o
 }

@@ -229,6 +229,9 @@ func TestWhoLeadsRetiresTheTermsFarBelow(t *testing.T) {
 	_, err = ring.Campaign(background(t), "red", short(CampaignOptions{Gone: 15, Keep: 1}))
 	must(t, err)
 	same(t, floors(), []int{15, 13, 13})
+	_, err = ring.Campaign(background(t), "red", short(CampaignOptions{Gone: 16, Keep: KeepNone}))
+	must(t, err)
+	same(t, floors(), []int{17, 13, 13})
 }
 
 func TestWhoLeadsHoldsNoDoorWhileNodesRetire(t *testing.T) {
@@ -254,7 +257,7 @@ func TestWhoDoesNotLeadOrKeepsAllTermsRetiresNone(t *testing.T) {
 		must(t, err)
 	}
 	same(t, len(nodes[0].lines("retire"))+len(nodes[1].lines("retire")), 0)
-	for _, how := range []CampaignOptions{{Keep: -1}, {Gone: -1}, {Terms: -1}, {Wait: -1}, {Node: 3}, {Node: -1},
+	for _, how := range []CampaignOptions{{Keep: -2}, {Gone: -1}, {Terms: -1}, {Wait: -1}, {Node: 3}, {Node: -1},
 		{Rank: 1_000}, {Rank: -1}} {
 		if _, err := ring.Campaign(background(t), "red", how); err == nil {
 			t.Fatalf("%+v is taken", how)

@@ -35,7 +35,7 @@ type LockOptions struct {
 	// takes a door of each node where it holds any; one that is paused or cut off is seen until `ringd --idle` ends its
 	// session.
 	AcrossHosts bool
-	// Keep is how many terms below its own are kept; DefaultKeep where it is 0.
+	// Keep is how many terms below its own are kept; DefaultKeep where it is 0, and none where it is KeepNone.
 	Keep int
 	// GiveUp is after how long without an answer of a node that could tell of a greater term the lock is lost, as for who
 	// is cut off from the ring; never where it is 0. Across hosts others are told it, up to one of 1, 2, 3, 5, 8, 10, 15,
