@@ -111,7 +111,7 @@ clients:
 	@python3 -m unittest discover -s clients/python/tests -t clients/python
 	@if command -v mypy > /dev/null; then mypy --strict clients/python/cinoweta; \
 	else echo "make clients: mypy is not there: the types of clients/python are not looked at"; fi
-	@if command -v go > /dev/null; then cd clients/go && go vet && $(if $(RINGD),RINGD="$(abspath $(RINGD))") go test; \
+	@if command -v go > /dev/null; then cd clients/go && go vet ./... && $(if $(RINGD),RINGD="$(abspath $(RINGD))") go test ./...; \
 	else echo "make clients: go is not there: the tests of clients/go are skipped"; fi
 	@if command -v promtool > /dev/null; then promtool test rules examples/test_alerts.yml; \
 	else echo "make clients: promtool is not there: the tests of examples/alerts.yml are skipped"; fi
