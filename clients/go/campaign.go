@@ -238,8 +238,9 @@ func (c *campaign) retire(ctx context.Context, term int) {
 	c.ring.release(ctx)
 	ring := c.ring.within(retireLimit)
 	defer ring.release(ctx)
-	for node := 1; node <= ring.nodes; node++ {
-		_, _ = ring.Retire(ctx, c.group, floor, node)
+	// Of a process that ends soon the last ones may be asked nothing: no node is always one of those.
+	for step := 0; step < ring.nodes; step++ {
+		_, _ = ring.Retire(ctx, c.group, floor, (c.places[0]-1+step)%ring.nodes+1)
 	}
 }
 

@@ -234,6 +234,29 @@ func TestWhoLeadsRetiresTheTermsFarBelow(t *testing.T) {
 	same(t, floors(), []int{17, 13, 13})
 }
 
+// A process may end before the last ones are asked.
+func TestEachNodeIsNowAndThenTheFirstThatRetires(t *testing.T) {
+	votes, asked := newVotes(), make(chan int, 3)
+	at := func(node int) answer {
+		return func(line string) (string, bool) {
+			if strings.HasPrefix(line, "retire") {
+				asked <- node
+			}
+			return votes.answerAt(node, line), true
+		}
+	}
+	ring, _ := beside(t, at(1), at(2), at(3))
+	first := map[int]bool{}
+	for gone := 20; gone < 60; gone++ {
+		_, err := ring.Campaign(background(t), "red", CampaignOptions{Gone: gone})
+		must(t, err)
+		first[<-asked] = true
+		<-asked
+		<-asked
+	}
+	same(t, len(first), 3)
+}
+
 func TestWhoLeadsHoldsNoDoorWhileNodesRetire(t *testing.T) {
 	votes, held := newVotes(), make(chan bool, 2)
 	var ring *Ring

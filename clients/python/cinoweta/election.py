@@ -158,9 +158,11 @@ async def retire(ring: Asking, group: str, floor: int) -> None:
     if floor > 1:
         asks = ring.within(SECONDS)
         try:
-            for node in range(1, asks.nodes + 1):
+            # Of a process that ends soon the last ones may be asked nothing: no node is always one of those.
+            first = secrets.randbelow(asks.nodes)
+            for step in range(asks.nodes):
                 with contextlib.suppress(CinowetaError):
-                    await asks.do_retire(group, floor, node)
+                    await asks.do_retire(group, floor, (first + step) % asks.nodes + 1)
         finally:
             asks.close()
 

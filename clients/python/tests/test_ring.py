@@ -332,6 +332,21 @@ class CampaignTest(Beside):
         self.assertTrue(self.campaign(ring, gone=15, keep=1).is_mine)
         self.assertEqual([each.floor for each in votes], [15, 13, 13])
 
+    def test_each_node_is_now_and_then_the_first_that_retires(self) -> None:
+        # A process may end before the last ones are asked.
+        votes, asked = Votes(), []
+
+        def at(node: int) -> Callable[[str], str]:
+            def answer(line: str) -> str:
+                asked.extend([node] * line.startswith("retire"))
+                return votes(line)
+            return answer
+
+        ring, _ = self.ring(at(1), at(2), at(3))
+        for gone in range(20, 60):
+            self.assertTrue(self.campaign(ring, gone=gone).is_mine)
+        self.assertEqual((len(asked), {*asked[::3]}), (120, {1, 2, 3}))
+
     def test_who_leads_holds_no_door_while_nodes_retire(self) -> None:
         votes, seen = Votes(), []
 
