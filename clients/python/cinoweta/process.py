@@ -69,6 +69,11 @@ class Running:
         if not self.has_group:
             return process.poll() is None
         try:
+            if process.poll() is not None:
+                # To the first program of a container is left who lost its parent, and it is there until it was waited for.
+                with contextlib.suppress(ChildProcessError):
+                    while os.waitpid(-process.pid, os.WNOHANG)[0]:
+                        pass
             os.killpg(process.pid, 0)
         except OSError:
             return False

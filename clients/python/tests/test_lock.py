@@ -1,5 +1,6 @@
 """A Lock beside servers of lines that answer as they are told."""
 import contextlib
+import ctypes
 import errno
 import io
 import os
@@ -430,6 +431,20 @@ class ProcessTest(unittest.TestCase):
         process = self.begin(f"trap '' USR1; sleep {seconds} > /dev/null & sleep 0.2; kill -USR1 $PPID; sleep 0.2; exit 3")
         self.assertEqual((process.stdout.read(), process.wait(10)), ("3\n", 0))
         self.assertEqual(end_all(sleeps(seconds)), 1)
+
+    @unittest.skipUnless(sys.platform == "linux", "no program adopts who lost its parent")
+    def test_who_is_left_to_it_is_not_waited_for(self) -> None:
+        def adopt() -> None:
+            # PR_SET_CHILD_SUBREAPER, as for the first program of a container.
+            ctypes.CDLL(None).prctl(36, 1)
+
+        process = self.begin(f"sleep 60 > /dev/null & trap 'exit 3' TERM; echo in; {LOOP}", grace=8.0, preexec_fn=adopt)
+        self.assertEqual(process.stdout.readline(), "in\n")
+        time.sleep(0.2)
+        begun = time.monotonic()
+        process.terminate()
+        self.assertEqual((process.stdout.read(), process.wait(10)), ("3\n", 0))
+        self.assertLess(time.monotonic() - begun, 4.0)
 
     def test_a_terminal_has_one_group(self) -> None:
         own, other = pty.openpty()
