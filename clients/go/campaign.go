@@ -4,7 +4,6 @@ import (
 	"context"
 	"errors"
 	"fmt"
-	"os"
 	"time"
 )
 
@@ -168,7 +167,7 @@ func (c *campaign) runUntil(ctx context.Context, until time.Time) (Election, err
 	}
 	if c.asked.Before(begun) {
 		// Its caller's context is not over.
-		return Election{}, &NoAnswerError{silent.Address, os.ErrDeadlineExceeded}
+		return Election{}, silent.withoutContext()
 	}
 	return Election{}, c.noLeader(ctx)
 }

@@ -116,6 +116,8 @@ type NoAnswerError struct {
 	Address string
 	// Err is what went wrong there, or the error of the context.
 	Err error
+	// What went wrong there before the context was over, where that is Err; nil where nothing did.
+	before error
 }
 
 // Error says where was asked, and what went wrong.
@@ -223,12 +225,26 @@ func wrongAnswer(answer string) *WrongRingError {
 // noAnswer says that nobody answered at an address, for this error or that of the context. The end of a time that its caller
 // did not set is none of a context.
 func noAnswer(ctx context.Context, address string, err error) *NoAnswerError {
-	if over := ended(ctx); over != nil {
-		err = over
-	} else if errors.Is(err, context.DeadlineExceeded) {
-		err = os.ErrDeadlineExceeded
+	over, isLate := ended(ctx), errors.Is(err, context.DeadlineExceeded)
+	switch {
+	case over == nil && isLate:
+		return &NoAnswerError{Address: address, Err: os.ErrDeadlineExceeded}
+	case over == nil:
+		return &NoAnswerError{Address: address, Err: err}
+	case isLate || errors.Is(err, os.ErrDeadlineExceeded) || errors.Is(err, context.Canceled):
+		return &NoAnswerError{Address: address, Err: over}
+	default:
+		return &NoAnswerError{Address: address, Err: over, before: err}
 	}
-	return &NoAnswerError{address, err}
+}
+
+// withoutContext says the same of a question whose context was not that of who calls: its end alone went wrong, if nothing
+// did before.
+func (e *NoAnswerError) withoutContext() *NoAnswerError {
+	if e.before != nil {
+		return &NoAnswerError{Address: e.Address, Err: e.before}
+	}
+	return &NoAnswerError{Address: e.Address, Err: os.ErrDeadlineExceeded}
 }
 
 // isPassing tells whether time or an operator mends the fault, as by a start or a Retire, and it is none of the question.

@@ -11,6 +11,7 @@ import (
 	"strings"
 	"sync"
 	"sync/atomic"
+	"syscall"
 	"testing"
 	"time"
 )
@@ -390,6 +391,20 @@ func TestARingHasTheWaitOfWhoAcquires(t *testing.T) {
 		same(t, []bool{took >= row.least, took < row.least+time.Second}, []bool{true, true})
 		same(t, errors.Is(err, context.DeadlineExceeded), false)
 	}
+}
+
+func TestWhatKeptARingFromAnAnswerIsTold(t *testing.T) {
+	ring, nodes, _ := elected(t)
+	ring.Timeout = DefaultTimeout
+	for _, node := range nodes {
+		node.end()
+	}
+	err := lockOf(t, ring, LockOptions{}).TryAcquire(background(t))
+	is(t, as[*NoAnswerError](t, err), syscall.ECONNREFUSED)
+	same(t, errors.Is(err, context.DeadlineExceeded), false)
+	ctx, cancel := context.WithTimeout(background(t), 200*time.Millisecond)
+	defer cancel()
+	is(t, lockOf(t, ring, LockOptions{}).Acquire(ctx), context.DeadlineExceeded)
 }
 
 func TestALockIsLostOnceAGreaterTermIsKnown(t *testing.T) {
