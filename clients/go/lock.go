@@ -85,6 +85,8 @@ type Lock struct {
 	asked, heard time.Time
 	hasGivenUp   bool
 	later        int
+	// Closed once the nodes were asked to retire; nil where they never were.
+	retired chan struct{}
 }
 
 // NewLock gives the lock of the group, which is not held yet.
@@ -313,8 +315,7 @@ func (l *Lock) contend(ctx, waits context.Context, campaign *campaign) (Led, err
 		}
 		switch {
 		case err == nil && election.IsMine:
-			// Nodes may be slow to, and nobody waits for that.
-			go campaign.retire(context.Background(), election.Term)
+			l.retire(campaign, election.Term)
 			return election.Led, nil
 		case err == nil || election.IsMine && isOver(err):
 			campaign.how.Gone = election.Term
@@ -331,6 +332,33 @@ func (l *Lock) contend(ctx, waits context.Context, campaign *campaign) (Led, err
 		default:
 			return Led{}, err
 		}
+	}
+}
+
+// retire has nodes retire what is not kept. They may be slow to, and who holds the lock does not wait for that.
+func (l *Lock) retire(campaign *campaign, term int) {
+	l.mutex.Lock()
+	defer l.mutex.Unlock()
+	retired := make(chan struct{})
+	l.retired = retired
+	go func() {
+		defer close(retired)
+		campaign.retire(context.Background(), term)
+	}()
+}
+
+// AwaitRetires waits until the nodes were asked to retire what is not kept, as they are since the lock was acquired last, or
+// until the context is over. Who takes a lock for a moment alone, and ends its process then, leaves them no time else.
+func (l *Lock) AwaitRetires(ctx context.Context) {
+	l.mutex.Lock()
+	retired := l.retired
+	l.mutex.Unlock()
+	if retired == nil {
+		return
+	}
+	select {
+	case <-retired:
+	case <-ctx.Done():
 	}
 }
 

@@ -172,6 +172,33 @@ func TestALeaderThatHoldsNoLockIsGone(t *testing.T) {
 	until(t, "the floor", func() bool { return votes.retired() == 18 })
 }
 
+func TestRetiresAreWaitedFor(t *testing.T) {
+	ring, nodes, votes := elected(t)
+	votes.lead(20, 1, 10)
+	lock := lockOf(t, ring, LockOptions{})
+	// It was not acquired yet.
+	lock.AwaitRetires(background(t))
+	for place, node := range nodes {
+		at := votes.at(place + 1)
+		node.is(func(line string) (string, bool) {
+			if strings.HasPrefix(line, "retire") {
+				time.Sleep(200 * time.Millisecond)
+			}
+			return at(line)
+		})
+	}
+	must(t, lock.Acquire(background(t)))
+	lock.Resign()
+	begun := time.Now()
+	ctx, cancel := context.WithTimeout(background(t), 50*time.Millisecond)
+	defer cancel()
+	lock.AwaitRetires(ctx)
+	same(t, time.Since(begun) < 200*time.Millisecond, true)
+	lock.AwaitRetires(background(t))
+	same(t, [][]string{nodes[0].lines("retire"), nodes[1].lines("retire")}, [][]string{{"retire red 19"}, {"retire red 19"}})
+	same(t, time.Since(begun) >= 300*time.Millisecond, true)
+}
+
 func TestALockIsHeldWhereNodesDoNotRetire(t *testing.T) {
 	votes := newVotes().lead(20, 2, 0)
 	answer := func(line string) (string, bool) {

@@ -16,6 +16,9 @@ import (
 	"cinoweta"
 )
 
+// So long is waited at the end for nodes that retire.
+const retiresLimit = time.Second
+
 // runLocked runs the command while it leads, and gives the exit status.
 func runLocked(told words) int {
 	path, err := find(told.command[0])
@@ -127,6 +130,7 @@ func runHeld(lock *cinoweta.Lock, path string, told words, signals chan os.Signa
 		end, fault = runCommand(ctx, &command, signals, told.grace)
 		return nil
 	})
+	awaitRetires(lock)
 	var lost *cinoweta.LockLostError
 	switch {
 	case fault != nil:
@@ -141,6 +145,14 @@ func runHeld(lock *cinoweta.Lock, path string, told words, signals chan os.Signa
 	default:
 		return told.tellFault(err)
 	}
+}
+
+// awaitRetires waits a moment for nodes that retire yet: the journals of those that never may behind short commands would
+// fill. The lock is given back by then.
+func awaitRetires(lock *cinoweta.Lock) {
+	ctx, cancel := context.WithTimeout(context.Background(), retiresLimit)
+	defer cancel()
+	lock.AwaitRetires(ctx)
 }
 
 // causeOf is what the system says, where it does.

@@ -40,8 +40,7 @@ func TestWhatIsToldOfALockIsHeeded(t *testing.T) {
 	for keep, floor := range map[string]string{"3": "retire jobs 37", "0": "retire jobs 50"} {
 		term := map[string]int{"3": 39, "0": 49}[keep]
 		ring.change(func() { ring.leaders[term] = "1 5" })
-		// So that the nodes have the time to.
-		lock(ring, "--keep", keep, "jobs", "--", "sleep", "0.3").start(t).endsWith(t, 0, "", "")
+		lock(ring, "--keep", keep, "jobs", "--", "true").start(t).endsWith(t, 0, "", "")
 		same(t, len(ring.lines(floor)), 2)
 		ring.change(func() { ring.leaders = map[int]string{} })
 	}
