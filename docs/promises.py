@@ -4,7 +4,7 @@
     docs/promises.py [CRATE..]
 
 The first table of a crate has each public call with a contract: the first sentence of its comment, and the names of its conditions and
-clauses. A clause without a name is `its clause`. The second has each wrong body: the function that its edit stands in, and the line `says:`
+clauses. A clause without a name is `its clause`; one that is a record of the crate has the names of its fields. The second has each wrong body: the function that its edit stands in, and the line `says:`
 of the edit. Crates of tests and of rows have the second alone. Behind the tables stands the README.md of the crate.
 
 `make docs` writes all of it to bin/promises.md. docs/check.py prints the faults: a call without a comment, an edit without `says:`, and one
@@ -19,7 +19,8 @@ from typing import Iterator
 ROOT = pathlib.Path(__file__).resolve().parent.parent
 ASIDE = re.compile(r"_tests$|rows$")
 FUNCTION = re.compile(r"^(\s*)(pub(?:\([^)]*\))?\s+)?(?:const\s+)?(?:unsafe\s+)?fn\s+(\w+)")
-CLAUSE = re.compile(r"^\s*(requires|ensures)\s*(\w+)?\s*\{")
+CLAUSE = re.compile(r"^\s*(requires|ensures)\s*(\w+)?\s*\{\s*(\w+)?")
+RECORD = re.compile(r"^( *)pub record (\w+).*?\bwhere\n((?:\1  [^\n]*\n|\n)+)", re.MULTILINE | re.DOTALL)
 BLOCK = re.compile(r"^(?:unsafe\s+)?(?:impl|pub trait|trait)\b")
 ITEM = re.compile(r"^\s*(?:pub(?:\([^)]*\))?\s+)?(?:struct|enum|type|const|static|ghost|impl|use|mod|macro_rules!)\s*(\w+)?")
 SENTENCE = re.compile(r"(?<=\.)\s")
@@ -34,8 +35,9 @@ class Function:
     name: str
     is_public: bool
     comment: str
-    requires: list[str] = field(default_factory=list)
-    ensures: list[str] = field(default_factory=list)
+    # The name of each, and the word that it begins with; None for none.
+    requires: list[tuple[str | None, str | None]] = field(default_factory=list)
+    ensures: list[tuple[str | None, str | None]] = field(default_factory=list)
 
     def promise(self) -> str:
         return SENTENCE.split(self.comment)[0].replace("|", "\\|")
@@ -94,10 +96,16 @@ def functions(text: str) -> Iterator[Function]:
                 if below == it[1] + "{" or FUNCTION.match(below):
                     break
                 if clause := CLAUSE.match(below):
-                    (found.requires if clause[1] == "requires" else found.ensures).append(clause[2] or "its clause")
+                    (found.requires if clause[1] == "requires" else found.ensures).append((clause[2], clause[3]))
             yield found
         if not line.strip().startswith(("#[", "//")):
             comment = []
+
+
+def named(name: str | None, fields: list[str] | None) -> str:
+    """A clause by its name, and by its fields where it is a record."""
+    parts = ", ".join(f"`{it}`" for it in fields or ())
+    return f"`{name}`: {parts}" if name and parts else parts or (f"`{name}`" if name else "its clause")
 
 
 class Sources:
@@ -161,6 +169,11 @@ class Sources:
         found = [it for path in self.functions if path.is_relative_to(folder) for it in self.functions[path]]
         return [it for it in found if it.is_public and (it.requires or it.ensures)]
 
+    def records(self, crate: str) -> dict[str, list[str]]:
+        """The fields of each record of a crate's definitions."""
+        texts = [path.read_text() for path in sorted((self.root / "crates" / crate / "specs").glob("**/*.antt"))]
+        return {it[2]: re.findall(r"^ +pub (\w+) :", it[3], re.MULTILINE) for text in texts for it in RECORD.finditer(text)}
+
     def faults(self) -> Iterator[tuple[pathlib.Path, int, str]]:
         """What the tables lack: the file, its line, and what is wrong."""
         for path, found in self.functions.items():
@@ -179,8 +192,9 @@ class Sources:
         yield f"\n## {crate}\n"
         if calls := self.calls(crate):
             yield "| call | what it promises | conditions | clauses |\n|---|---|---|---|"
+            records = self.records(crate)
             for it in calls:
-                names = [", ".join("its clause" if of == "its clause" else f"`{of}`" for of in them) for them in (it.requires, it.ensures)]
+                names = [", ".join(named(of, records.get(word)) for of, word in them) for them in (it.requires, it.ensures)]
                 yield f"| `{it.name}` | {it.promise()} | {' | '.join(names)} |"
         if edits := [it for it in self.edits if it.crate == crate]:
             yield "\n| wrong body | stands in | what it says |\n|---|---|---|"
