@@ -11,6 +11,7 @@ pub mod Journal
 pub mod Listed
 pub mod Newer
 pub mod NextFrame
+pub mod OnlyReads
 pub mod Opened
 pub mod Pieces
 pub mod Place
