@@ -19,5 +19,6 @@ pub mod Props
 pub mod Reading
 pub mod Sizes
 pub mod Unread
+pub mod Written
 pub mod WorkTaken
 pub mod Works
