@@ -22,17 +22,17 @@ use Rattle.ring_service.proofs.flusher.Flusher.flush_round.Goals as goal
 pub returns-then-is_err-clause-any_moment : goal.returns-then-is_err-clause-any_moment
 returns-then-is_err-clause-any_moment g c =
     let device = device_of (journal_of c.args.self.now) in
-    λ goes_on r reads. idle g.V.Device.clock g.V.Device.left_since device (g.V.Device.disk device) g.A.NodeLedger.member g.A.NodeLedger.opening _ r (g.met.V.Device.only_now device) reads
+    λ goes_on r reads. idle g.V.Device device (g.V.Device.disk device) g.A.NodeLedger.member g.A.NodeLedger.opening _ r (g.met.V.Device.only_now device) reads
 
 pub returns-in-Err-clause-any_moment : goal.returns-in-Err-clause-any_moment
 returns-in-Err-clause-any_moment g c =
     let device = device_of (journal_of c.args.self.now) in
-    λ goes_on r reads. idle g.V.Device.clock g.V.Device.left_since device (g.V.Device.disk device) g.A.NodeLedger.member g.A.NodeLedger.opening _ r (g.met.V.Device.only_now device) reads
+    λ goes_on r reads. idle g.V.Device device (g.V.Device.disk device) g.A.NodeLedger.member g.A.NodeLedger.opening _ r (g.met.V.Device.only_now device) reads
 
 pub returns-in-Ok-None-clause-any_moment : goal.returns-in-Ok-None-clause-any_moment
 returns-in-Ok-None-clause-any_moment g c =
     let device = device_of (journal_of c.args.self.now) in
-    λ goes_on r reads. idle g.V.Device.clock g.V.Device.left_since device (g.V.Device.disk device) g.A.NodeLedger.member g.A.NodeLedger.opening _ r (g.met.V.Device.only_now device) reads
+    λ goes_on r reads. idle g.V.Device device (g.V.Device.disk device) g.A.NodeLedger.member g.A.NodeLedger.opening _ r (g.met.V.Device.only_now device) reads
 
 -- a growth was refused
 
@@ -82,7 +82,7 @@ returns-in-Ok-clause-round g c =
       within = (
           let journal = journal_of c.args.self.now in
           let of = c.args.self.now.member c.if-self.false in
-          λ r reads. moments g.V.Device.clock g.V.Device.left_since (device_of journal) (device_of c.settle.new.journal) (member_of journal) m (known_by c.args.self.now.tie) (epoch_of journal) r inputs (summary_by w)
+          λ r reads. moments g.V.Device (device_of journal) (device_of c.settle.new.journal) (member_of journal) m (known_by c.args.self.now.tie) (epoch_of journal) r inputs (summary_by w)
           of (c.args.self.now.known c.if-self.false).area (c.settle.ensures.any_moment r (subst (λ (x : Member). AllReadAs x disk r) (sym of) reads))
           );
       brought = λ past is.
@@ -104,7 +104,7 @@ returns-in-Err-settle-clause-any_moment g c =
     λ goes_on r reads.
     let same = c.args.self.now.member goes_on in
     let made = makes g.A.NodeLedger.member g.A.NodeLedger.opening _ w (λ e. omega (arith, (c.count.ensures.size e).1, c.count.ensures.value)) next in
-    written g.V.Device.clock g.V.Device.left_since (device_of journal) (device_of c.settle.new.journal) (member_of journal) g.A.NodeLedger.member g.A.NodeLedger.opening _ (epoch_of journal) r
+    written g.V.Device (device_of journal) (device_of c.settle.new.journal) (member_of journal) g.A.NodeLedger.member g.A.NodeLedger.opening _ (epoch_of journal) r
     (flown_by w).inputs (summary_by w) same (c.args.self.now.known goes_on).area made (c.settle.ensures.any_moment r (subst (λ (m : Member). AllReadAs m (g.V.Device.disk (device_of journal)) r) (sym same) reads))
 
 pub returns-in-Ok-clause-any_moment : goal.returns-in-Ok-clause-any_moment
@@ -115,5 +115,5 @@ returns-in-Ok-clause-any_moment g c =
     λ goes_on r reads.
     let same = c.args.self.now.member goes_on in
     let made = makes g.A.NodeLedger.member g.A.NodeLedger.opening _ w (λ e. omega (arith, (c.count.ensures.size e).1, c.count.ensures.value)) next in
-    written g.V.Device.clock g.V.Device.left_since (device_of journal) (device_of c.settle.new.journal) (member_of journal) g.A.NodeLedger.member g.A.NodeLedger.opening _ (epoch_of journal) r
+    written g.V.Device (device_of journal) (device_of c.settle.new.journal) (member_of journal) g.A.NodeLedger.member g.A.NodeLedger.opening _ (epoch_of journal) r
     (flown_by w).inputs (summary_by w) same (c.args.self.now.known goes_on).area made (c.settle.ensures.any_moment r (subst (λ (m : Member). AllReadAs m (g.V.Device.disk (device_of journal)) r) (sym same) reads))
