@@ -1,5 +1,5 @@
 -- What a round of a flusher does.
-use Rattle.std.specs.Prelude.{ℕ, ◌≡◌, ◌+◌, ◌-◌, ◌<◌, ◌≤◌, ◌⊎◌, Bool, true, List, ◌++◌, length, Option, Some, None, is_some}
+use Rattle.std.specs.Prelude.{ℕ, ◌≡◌, ◌+◌, ◌-◌, ◌≤◌, ◌⊎◌, List, ◌++◌, length, Option, Some, None, is_some}
 use Rattle.std.specs.Option.{option_map}
 use Rattle.disk_model.specs.declared.device.Device.{Ghosts}
 use Rattle.disk_model.specs.Disk.{LeavesOnly}
