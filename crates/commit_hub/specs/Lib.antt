@@ -4,7 +4,6 @@ pub mod Over
 pub mod Pages
 pub mod Places
 pub mod Props
-pub mod Rounds
 pub mod Stances
 pub mod Tied
 pub mod Ties

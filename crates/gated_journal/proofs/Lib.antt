@@ -18,7 +18,6 @@ pub mod Kept
 pub mod FewFloors
 pub mod FramesAlone
 pub mod Once
-pub mod OnlyReads
 pub mod Pieces
 pub mod Reader
 pub mod Results

@@ -1,12 +1,13 @@
 //! The heads of a journal's two areas, and which of them is read.
-ghost use Rattle.std.specs.Prelude.{◌≡◌, ◌+◌, ◌≤◌, ◌<◌, ◌^◌, ℕ, List, length, Decides, MatchOption, IfOk, IfErr};
-ghost use Rattle.disk_model.specs.Calls.{IsPart};
+ghost use Rattle.std.specs.Prelude.{◌≡◌, ◌+◌, ◌≤◌, ◌<◌, ◌^◌, ◌⊎◌, ℕ, List, length, Decides, MatchOption, IfOk, IfErr, OnOk};
+ghost use Rattle.disk_model.specs.Disk.{MayLeave, LeavesOnly, Reaches};
+ghost use Rattle.disk_model.specs.Calls.{IsPart, IsInReach};
 ghost use Rattle.gated_journal.specs.Areas.{area_a, area_b, AreAreas, Counts};
 ghost use Rattle.gated_journal.specs.AreaWritten.{leaves_closed};
 ghost use Rattle.gated_journal.specs.Choose.{IsChosen, IsUnchosen, IsPlainly};
 ghost use Rattle.gated_journal.specs.InUse.{IsHeadOf, IsUsed, IsUsedPlainly, IsInUseBy, IsMarked, start_of, other_of};
 ghost use Rattle.gated_journal.specs.Damage.{AreAreasUnread};
-ghost use Rattle.gated_journal.specs.OnlyReads.{OnlyReads, NoCause};
+ghost use Rattle.gated_journal.specs.Unread.{IsFault};
 
 use crate::layout::{AREA_A, area_b, is_layout};
 use crate::read::read_part;
@@ -166,7 +167,12 @@ fn pick(a: &Head, b: &Head, capacity: u32, is_old: bool, size: u64) -> Result<Ch
 // Reads the first bytes of the area at `start`. Those that the device does not have are 0, and are not asked for.
 fn head_bytes<D: Device>(device: &mut D, start: u64) -> Result<[u8; 14], Refusal>
     ensures part { IfOk result (λ bytes. IsPart start bytes (D.disk device.old).image) }
-    ensures device { OnlyReads D.Device device.old device.new result NoCause }
+    ensures disk { D.disk device.new ≡ D.disk device.old }
+    ensures any_moment { LeavesOnly D.clock D.left_since device.old device.new (MayLeave (D.disk device.old)) }
+    ensures fault { IfErr result (λ refusal. IsFault (D.count device.old) (D.count device.new) refusal) }
+    ensures later { D.count device.old ≤ D.count device.new }
+    ensures same { OnOk result (D.count device.new ≡ D.count device.old) }
+    ensures reach { IsInReach (length (D.disk device.old).image) (D.reach device.old) (D.reach device.new) result }
 {
     let mut bytes = [0; 14];
     let size = device.size();
@@ -182,7 +188,12 @@ fn head_bytes<D: Device>(device: &mut D, start: u64) -> Result<[u8; 14], Refusal
 // Reads the head of the area at `start`.
 fn read_head<D: Device>(device: &mut D, start: u64) -> Result<Head, Refusal>
     ensures head { IfOk result (λ head. IsHeadOf head start (D.disk device.old).image) }
-    ensures device { OnlyReads D.Device device.old device.new result NoCause }
+    ensures disk { D.disk device.new ≡ D.disk device.old }
+    ensures any_moment { LeavesOnly D.clock D.left_since device.old device.new (MayLeave (D.disk device.old)) }
+    ensures fault { IfErr result (λ refusal. IsFault (D.count device.old) (D.count device.new) refusal) }
+    ensures later { D.count device.old ≤ D.count device.new }
+    ensures same { OnOk result (D.count device.new ≡ D.count device.old) }
+    ensures reach { IsInReach (length (D.disk device.old).image) (D.reach device.old) (D.reach device.new) result }
 {
     match head_bytes(device, start) {
         Ok(bytes) => Ok(head_in(&bytes)),
@@ -194,7 +205,12 @@ fn read_head<D: Device>(device: &mut D, start: u64) -> Result<Head, Refusal>
 fn read_heads<D: Device>(device: &mut D, capacity: u32) -> Result<(Head, Head), Refusal>
     ensures a { IfOk result (λ heads. IsHeadOf heads.0 area_a (D.disk device.old).image) }
     ensures b { IfOk result (λ heads. IsHeadOf heads.1 (area_b capacity) (D.disk device.old).image) }
-    ensures device { OnlyReads D.Device device.old device.new result NoCause }
+    ensures disk { D.disk device.new ≡ D.disk device.old }
+    ensures any_moment { LeavesOnly D.clock D.left_since device.old device.new (MayLeave (D.disk device.old)) }
+    ensures fault { IfErr result (λ refusal. IsFault (D.count device.old) (D.count device.new) refusal) }
+    ensures later { D.count device.old ≤ D.count device.new }
+    ensures same { OnOk result (D.count device.new ≡ D.count device.old) }
+    ensures reach { IsInReach (length (D.disk device.old).image) (D.reach device.old) (D.reach device.new) result }
 {
     match read_head(device, AREA_A) {
         Err(refusal) => Err(refusal),
@@ -215,7 +231,14 @@ pub(crate) fn choose_area<D: Device>(
     requires long { area_a ≤ length (D.disk device.old).image }
     requires marked { IsMarked is_old (D.disk device.old).image }
     ensures used { IfOk result (λ chosen. IsInUseBy capacity (D.disk device.old).image chosen) }
-    ensures device { OnlyReads D.Device device.old device.new result (λ refusal. (n : ℕ) → AreAreasUnread n capacity (D.disk device.old).image refusal) }
+    ensures disk { D.disk device.new ≡ D.disk device.old }
+    ensures any_moment { LeavesOnly D.clock D.left_since device.old device.new (MayLeave (D.disk device.old)) }
+    ensures refusal { IfErr result (λ refusal. IsFault (D.count device.old) (D.count device.new) refusal ⊎ ((n : ℕ) → AreAreasUnread n capacity (D.disk device.old).image refusal)) }
+    ensures later { D.count device.old ≤ D.count device.new }
+    ensures same { OnOk result (D.count device.new ≡ D.count device.old) }
+    ensures first { IfErr result (λ refusal. IsFault (D.count device.old) (D.count device.new) refusal ⊎ (D.count device.new ≡ D.count device.old)) }
+    ensures works { Reaches (D.reach device.old) (length (D.disk device.old).image) → IfErr result (λ refusal. (n : ℕ) → AreAreasUnread n capacity (D.disk device.old).image refusal) }
+    ensures reach { D.reach device.new ≡ D.reach device.old }
 {
     match read_heads(device, capacity) {
         Err(refusal) => Err(refusal),

@@ -1,4 +1,3 @@
-pub mod Flushed
 pub mod Flying
 pub mod Node
 pub mod Props
