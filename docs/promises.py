@@ -4,8 +4,9 @@
     docs/promises.py [CRATE..]
 
 The first table of a crate has each public call with a contract: the first sentence of its comment, and the names of its conditions and
-clauses. A clause without a name is `its clause`; one that is a record of the crate has the names of its fields. The second has each wrong body: the function that its edit stands in, and the line `says:`
-of the edit. Crates of tests and of rows have the second alone. Behind the tables stands the README.md of the crate.
+clauses. A clause without a name is `its clause`; one that is a record of the crate has the names of its fields. The second has each wrong
+body: the function that its edit stands in, and the line `says:` of the edit. Crates of tests and of rows have the second alone. Behind the
+tables stands the README.md of the crate.
 
 `make docs` writes all of it to bin/promises.md. docs/check.py prints the faults: a call without a comment, an edit without `says:`, and one
 of which an old text does not stand once in its file."""
@@ -19,7 +20,9 @@ from typing import Iterator
 ROOT = pathlib.Path(__file__).resolve().parent.parent
 ASIDE = re.compile(r"_tests$|rows$")
 FUNCTION = re.compile(r"^(\s*)(pub(?:\([^)]*\))?\s+)?(?:const\s+)?(?:unsafe\s+)?fn\s+(\w+)")
-CLAUSE = re.compile(r"^\s*(requires|ensures)\s*(\w+)?\s*\{\s*(\w+)?")
+CLAUSE = re.compile(r"^\s*(requires|ensures)\s*(\w+)?\s*\{")
+# What a clause has that is one word with its arguments, and no more.
+APPLIED = re.compile(r"(\w+)(?: (?:[\w.]+|\[\]))*")
 RECORD = re.compile(r"^( *)pub record (\w+).*?\bwhere\n((?:\1  [^\n]*\n|\n)+)", re.MULTILINE | re.DOTALL)
 BLOCK = re.compile(r"^(?:unsafe\s+)?(?:impl|pub trait|trait)\b")
 ITEM = re.compile(r"^\s*(?:pub(?:\([^)]*\))?\s+)?(?:struct|enum|type|const|static|ghost|impl|use|mod|macro_rules!)\s*(\w+)?")
@@ -35,7 +38,7 @@ class Function:
     name: str
     is_public: bool
     comment: str
-    # The name of each, and the word that it begins with; None for none.
+    # The name of each, and what it applies to all its arguments; None for none.
     requires: list[tuple[str | None, str | None]] = field(default_factory=list)
     ensures: list[tuple[str | None, str | None]] = field(default_factory=list)
 
@@ -76,6 +79,19 @@ def end_of(lines: list[str], begin: int, indent: str) -> int:
     return len(lines) - 1
 
 
+def applied(text: str) -> str | None:
+    """The word that a clause applies to arguments, where that is all it says. The text begins behind the clause's brace."""
+    end, depth = 0, 1
+    while end < len(text) and depth:
+        depth += {"{": 1, "}": -1}.get(text[end], 0)
+        end += 1
+    clause = " ".join(text[: end - 1].split())
+    while (shorter := re.sub(r"\([^()]*\)", "_", clause)) != clause:
+        clause = shorter
+    found = APPLIED.fullmatch(clause)
+    return found[1] if found else None
+
+
 def functions(text: str) -> Iterator[Function]:
     """The functions of a file, a method as TYPE::NAME."""
     lines = text.splitlines()
@@ -92,11 +108,12 @@ def functions(text: str) -> Iterator[Function]:
             end = end_of(lines, at, it[1])
             is_public = (it[2] or "").strip() == "pub" or is_trait
             found = Function(at, end, f"{owner}::{it[3]}" if owner else it[3], is_public, " ".join(comment))
-            for below in lines[at + 1 : end + 1]:
+            for place, below in enumerate(lines[at + 1 : end + 1], at + 1):
                 if below == it[1] + "{" or FUNCTION.match(below):
                     break
                 if clause := CLAUSE.match(below):
-                    (found.requires if clause[1] == "requires" else found.ensures).append((clause[2], clause[3]))
+                    said = applied(" ".join(lines[place : end + 1]).partition("{")[2])
+                    (found.requires if clause[1] == "requires" else found.ensures).append((clause[2], said))
             yield found
         if not line.strip().startswith(("#[", "//")):
             comment = []
