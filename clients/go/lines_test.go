@@ -13,6 +13,8 @@ import (
 	"sync"
 	"testing"
 	"time"
+
+	"cinoweta/internal/trial"
 )
 
 // An answer is what a node answers to a line; false ends the session unanswered.
@@ -417,21 +419,7 @@ func (v *votes) retire(floor int) string {
 	return "retired"
 }
 
-// must ends the test at an error.
-func must(t *testing.T, err error) {
-	t.Helper()
-	if err != nil {
-		t.Fatal(err)
-	}
-}
-
-// same compares what came with what was wanted.
-func same(t *testing.T, came, wanted any) {
-	t.Helper()
-	if fmt.Sprintf("%+v", came) != fmt.Sprintf("%+v", wanted) {
-		t.Fatalf("came %+v, wanted %+v", came, wanted)
-	}
-}
+var must, same = trial.Must, trial.Same
 
 // is ends the test where the error is none of this cause.
 func is(t *testing.T, err, cause error) {

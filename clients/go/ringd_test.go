@@ -64,9 +64,9 @@ func TestRingdTellsOfItself(t *testing.T) {
 	same(t, len(faults), 0)
 	told, err := Status(background(t), ring.Host, ring.Status)
 	must(t, err)
-	same(t, []any{told.Dir, len(told.Nodes), len(told.Ring)}, []any{served.dir(), 3, 32})
+	same(t, []any{told.Dir, len(told.Nodes), len(told.Ring)}, []any{served.Dir, 3, 32})
 	first := told.Nodes[0]
-	same(t, []any{first.Node, first.Port, first.State, first.Stands.Taken}, []any{1, served.first, "well", 1})
+	same(t, []any{first.Node, first.Port, first.State, first.Stands.Taken}, []any{1, served.First, "well", 1})
 	// Those from 3 to 9 are told before they come.
 	refusals := []RefusalCount{{ErrBadName, 1}}
 	for number := ErrAlreadyStands; number <= ErrNodeFailed; number++ {
@@ -130,9 +130,9 @@ func TestAKillOfRingdIsOutlived(t *testing.T) {
 	ring := served.ring(t)
 	election, err := ring.Campaign(background(t), "red", CampaignOptions{})
 	must(t, err)
-	served.kill()
+	served.Kill()
 	started := make(chan error)
-	time.AfterFunc(500*time.Millisecond, func() { started <- served.start() })
+	time.AfterFunc(500*time.Millisecond, func() { started <- served.Start() })
 	// Another node may answer first, and hear of it only now.
 	_, _, err = ring.Latest(background(t), "red", AnyNode)
 	must(t, err)
@@ -187,7 +187,7 @@ func TestARingThatRetiresIsNeverFull(t *testing.T) {
 }
 
 // takeTurns has so many lockers hold the lock of `red`, one behind the other, in terms that rise.
-func takeTurns(t *testing.T, served *served, count int, how LockOptions) {
+func takeTurns(t *testing.T, served served, count int, how LockOptions) {
 	t.Helper()
 	turns, ended := make(chan int, 2*count), make(chan error)
 	for range make([]struct{}, count) {
@@ -223,7 +223,7 @@ type worked struct {
 }
 
 // takeAgain has so many workers hold the lock for 50 ms, and take it again at once, until there were so many turns.
-func takeAgain(t *testing.T, served *served, workers, count int) []worked {
+func takeAgain(t *testing.T, served served, workers, count int) []worked {
 	t.Helper()
 	ctx, cancel := context.WithCancel(background(t))
 	defer cancel()
@@ -313,9 +313,9 @@ func TestARingThatIsDownEndsNoLock(t *testing.T) {
 	served := serve(t, usual)
 	first := served.locker(t)
 	first.tells(t, "term 1")
-	served.kill()
+	served.Kill()
 	first.isSilent(t, 4*time.Second)
-	must(t, served.start())
+	must(t, served.Start())
 	first.isSilent(t, 2*time.Second)
 	holder, isHeld, err := served.ring(t).Holder(background(t), "red", 0)
 	must(t, err)
@@ -331,12 +331,12 @@ func TestWhoWaitsForALockWaitsForARingThatIsDown(t *testing.T) {
 	lock, ended := NewLock(ring, "red", LockOptions{Tell: func(text string) { told <- text }}), make(chan error)
 	go func() { ended <- lock.Acquire(context.Background()) }()
 	same(t, strings.HasPrefix(<-told, "waits for process"), true)
-	served.kill()
+	served.Kill()
 	first.command.Process.Kill()
 	for range make([]struct{}, 3) {
 		same(t, strings.HasPrefix(<-told, "waits for the ring"), true)
 	}
-	must(t, served.start())
+	must(t, served.Start())
 	must(t, <-ended)
 	defer lock.Resign()
 	same(t, lock.Term(), 2)
@@ -409,7 +409,7 @@ func TestWhoWaitsInPythonAndInGoComesNext(t *testing.T) {
 }
 
 // serveAcross serves a ring of another host, which ends the session of a silent client.
-func serveAcross(t *testing.T) *served {
+func serveAcross(t *testing.T) served {
 	t.Helper()
 	return serveAt(t, otherHost, usual, "--idle", "2")
 }
@@ -468,9 +468,9 @@ func TestALockAcrossHostsOutlivesStartsOfRingd(t *testing.T) {
 	second := served.acrossLocker(t)
 	second.tells(t, "waits for node")
 	for range make([]struct{}, 3) {
-		served.kill()
+		served.Kill()
 		second.tells(t, "waits for the ring")
-		must(t, served.start())
+		must(t, served.Start())
 		second.tells(t, "waits for node")
 		second.isSilent(t, 2_500*time.Millisecond)
 		isHeld(t, served.ring(t), 1)

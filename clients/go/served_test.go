@@ -6,7 +6,6 @@ import (
 	"errors"
 	"fmt"
 	"io"
-	"math/rand"
 	"os"
 	"os/exec"
 	"os/signal"
@@ -15,6 +14,8 @@ import (
 	"syscall"
 	"testing"
 	"time"
+
+	"cinoweta/internal/trial"
 )
 
 const (
@@ -28,7 +29,7 @@ func TestMain(m *testing.M) {
 	if group := os.Getenv(lockVariable); group != "" {
 		os.Exit(holdLock(group))
 	}
-	if fault := noRingd(); fault != "" {
+	if fault := trial.NoRingd(); fault != "" {
 		fmt.Println("skipped are the tests beside ringd: " + fault)
 	}
 	os.Exit(m.Run())
@@ -64,130 +65,47 @@ func holdLock(group string) int {
 	return 0
 }
 
-// ringd is the program of RINGD, or bin/ringd.
-func ringd() string {
-	if path := os.Getenv("RINGD"); path != "" {
-		return path
-	}
-	return filepath.Join("..", "..", "bin", "ringd")
-}
-
-// noRingd says why there is none; nothing where there is one.
-func noRingd() string {
-	if _, err := exec.LookPath(ringd()); err != nil {
-		return ringd() + " is not there: make ringd builds it, and RINGD names another one"
-	}
-	return ""
-}
-
-// A served ring is one of three nodes of a real ringd. Killed, it may be started again at the same ports and with what
-// it held.
-type served struct {
-	folder, host    string
-	first, capacity int
-	words           []string
-	process         *exec.Cmd
-}
+// A served ring is one of a real ringd.
+type served struct{ *trial.Ringd }
 
 // serve serves a new ring until the end of the test.
-func serve(t *testing.T, capacity int) *served {
+func serve(t *testing.T, capacity int) served {
 	t.Helper()
 	return serveAt(t, ownHost, capacity)
 }
 
 // serveAt serves one at this host, told further words.
-func serveAt(t *testing.T, host string, capacity int, words ...string) *served {
+func serveAt(t *testing.T, host string, capacity int, words ...string) served {
 	t.Helper()
-	if fault := noRingd(); fault != "" {
-		t.Skip(fault)
-	}
-	made := &served{folder: t.TempDir(), host: host, capacity: capacity, words: words}
-	must(t, os.Mkdir(made.dir(), 0o700))
-	t.Cleanup(func() { made.kill() })
-	for range make([]struct{}, 20) {
-		made.first = 20_000 + rand.Intn(12_000)
-		if made.start() == nil {
-			return made
-		}
-	}
-	t.Fatal("ringd does not serve")
-	return nil
-}
-
-// start gives an error where it does not serve, as where a port is in use.
-func (s *served) start() error {
-	settings := filepath.Join(s.folder, "ring.toml")
-	text := fmt.Sprintf("nodes = 3\ndir = %q\nport = %d\ncapacity = %d\n", s.dir(), s.first, s.capacity)
-	if err := os.WriteFile(settings, []byte(text), 0o600); err != nil {
-		return err
-	}
-	status := fmt.Sprint(s.status())
-	words := append([]string{"--settings", settings, "--always", "--doors", "4", "--status", status}, s.words...)
-	if s.host != ownHost {
-		words = append(words, "--listen", s.host)
-	}
-	s.process = exec.Command(ringd(), words...)
-	out, err := s.process.StdoutPipe()
-	if err != nil {
-		return err
-	}
-	if err := s.process.Start(); err != nil {
-		return err
-	}
-	for lines := bufio.NewScanner(out); lines.Scan(); {
-		if lines.Text() == "serving" {
-			return nil
-		}
-	}
-	s.kill()
-	return errors.New("ringd does not serve")
-}
-
-func (s *served) kill() {
-	if s.process.Process != nil {
-		s.process.Process.Kill()
-		s.process.Wait()
-	}
-}
-
-func (s *served) dir() string {
-	return filepath.Join(s.folder, "ring")
-}
-
-func (s *served) status() int {
-	return s.first + 3
-}
-
-func (s *served) ports() string {
-	return fmt.Sprintf("%s:%d-%d", s.host, s.first, s.first+2)
+	return served{trial.Serve(t, host, capacity, words...)}
 }
 
 // ring is a client of its own.
-func (s *served) ring(t *testing.T) *Ring {
-	ring, err := ParseRing(s.ports())
+func (s served) ring(t *testing.T) *Ring {
+	ring, err := ParseRing(s.Ports())
 	must(t, err)
-	ring.Status = s.status()
+	ring.Status = s.Status()
 	t.Cleanup(func() { ring.Close() })
 	return ring
 }
 
 // locker starts another process that holds the lock of `red`.
-func (s *served) locker(t *testing.T) *program {
+func (s served) locker(t *testing.T) *program {
 	return start(t, exec.Command(os.Args[0]), s.variables()...)
 }
 
 // acrossLocker starts one that holds it across hosts.
-func (s *served) acrossLocker(t *testing.T) *program {
+func (s served) acrossLocker(t *testing.T) *program {
 	return start(t, exec.Command(os.Args[0]), append(s.variables(), acrossVariable+"=1")...)
 }
 
 // variables have a program be a locker of this ring.
-func (s *served) variables() []string {
-	return []string{lockVariable + "=red", "CINOWETA_RING=" + s.ports(), fmt.Sprint("CINOWETA_STATUS=", s.status())}
+func (s served) variables() []string {
+	return []string{lockVariable + "=red", "CINOWETA_RING=" + s.Ports(), fmt.Sprint("CINOWETA_STATUS=", s.Status())}
 }
 
 // python starts the command of the Python package with these words, or skips the test where there is no Python.
-func (s *served) python(t *testing.T, words ...string) *program {
+func (s served) python(t *testing.T, words ...string) *program {
 	t.Helper()
 	path, err := exec.LookPath("python3")
 	if err != nil {
@@ -195,7 +113,7 @@ func (s *served) python(t *testing.T, words ...string) *program {
 	}
 	command := exec.Command(path, append([]string{"-m", "cinoweta"}, words...)...)
 	command.Dir = filepath.Join("..", "python")
-	return start(t, command, "CINOWETA_RING="+s.ports())
+	return start(t, command, "CINOWETA_RING="+s.Ports())
 }
 
 // A program is another process whose lines are read.

@@ -301,18 +301,18 @@ func TestRingdShowsALockOfOneHost(t *testing.T) {
 	must(t, lock.Acquire(background(t)))
 	until(t, "the second", func() bool { return seen() == sight{true, false, "a test"} })
 	// Nobody waits for a ring that is away.
-	must(t, served.process.Process.Signal(syscall.SIGSTOP))
+	must(t, served.Process.Process.Signal(syscall.SIGSTOP))
 	time.Sleep(700 * time.Millisecond)
 	before := time.Now()
 	lock.Resign()
 	same(t, time.Since(before) < 500*time.Millisecond, true)
-	must(t, served.process.Process.Signal(syscall.SIGCONT))
+	must(t, served.Process.Process.Signal(syscall.SIGCONT))
 	until(t, "its end", func() bool { return !seen().isPresent })
 	must(t, lock.Run(background(t), func(context.Context, int) error {
 		until(t, "the third", func() bool { return seen() == sight{true, false, "a test"} })
 		// And again behind a start.
-		served.kill()
-		must(t, served.start())
+		served.Kill()
+		must(t, served.Start())
 		until(t, "the third again", func() bool { return seen() == sight{true, false, "a test"} })
 		return nil
 	}))

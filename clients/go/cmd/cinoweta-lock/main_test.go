@@ -13,6 +13,8 @@ import (
 	"syscall"
 	"testing"
 	"time"
+
+	"cinoweta/internal/trial"
 )
 
 // adoptVariable has the tests' program be the one that it names, which those that lose their parent are left to, as to the
@@ -157,18 +159,4 @@ func (p *program) endsWith(t *testing.T, status int, out, faults string) {
 	}
 }
 
-// must ends the test at an error.
-func must(t *testing.T, err error) {
-	t.Helper()
-	if err != nil {
-		t.Fatal(err)
-	}
-}
-
-// same compares what came with what was wanted.
-func same(t *testing.T, came, wanted any) {
-	t.Helper()
-	if fmt.Sprintf("%+v", came) != fmt.Sprintf("%+v", wanted) {
-		t.Fatalf("came %+v, wanted %+v", came, wanted)
-	}
-}
+var must, same = trial.Must, trial.Same
