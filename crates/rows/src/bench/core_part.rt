@@ -34,6 +34,7 @@ fn retire_next(alloc: Global, words: &mut Words<'_>) -> Result<(NodeCore, u32), 
     Ok(retire(alloc, terms, floor)?)
 }
 
+// Not by `tell`: the borrow checker does not follow a Fault through as many calls.
 fn tell_counts(told: &mut String, core: &NodeCore, decided: u32) -> Result<(), AllocError> {
     writeln!(told, "inputs {}", core.inputs())?;
     writeln!(told, "used {}", core.used())?;
