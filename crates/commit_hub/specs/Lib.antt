@@ -4,6 +4,7 @@ pub mod Over
 pub mod Pages
 pub mod Places
 pub mod Props
+pub mod Rounds
 pub mod Stances
 pub mod Tied
 pub mod Ties

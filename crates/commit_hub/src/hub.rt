@@ -1,20 +1,19 @@
 //! One lock round a desk, for many appenders and one flusher.
-ghost use Rattle.std.specs.Prelude.{ℕ, ◌≡◌, ◌+◌, ◌≤◌, ◌⊎◌, List, length, map, false, true, IfOk, IfErr, IfNone, IfSome, IsOk, MatchOption, OnOk, OnErr};
+ghost use Rattle.std.specs.Prelude.{◌≡◌, ◌+◌, ◌≤◌, ◌⊎◌, List, length, map, false, true, IfOk, IfErr, IfNone, IsOk, OnOk, OnErr};
 ghost use Rattle.std.specs.List.{sum_by};
 ghost use Rattle.ring_records.specs.declared.input.Input.{Input};
 ghost use Rattle.ring_records.specs.Lawful.{IsLawfulState};
 ghost use Rattle.ring_records.specs.Outside.{is_outside};
-ghost use Rattle.gated_journal.specs.Batch.{is_checkpoint, landed as receipted, lost};
 ghost use Rattle.group_commit.specs.Desk.{IsAnswer, seen};
 ghost use Rattle.node_core.specs.Core.{IsNodeOf};
 ghost use Rattle.group_commit.specs.Past.{IsPast};
 ghost use Rattle.group_commit.specs.Ticket.{shown};
 ghost use Rattle.commit_hub.specs.Over.{is_over};
-ghost use Rattle.commit_hub.specs.Holders.{begun_by, count_of, known_by, objection_to, view_by, IsNotLaunched};
+ghost use Rattle.commit_hub.specs.Holders.{begun_by, count_of, known_by, objection_to, view_by};
 ghost use Rattle.commit_hub.specs.Pages.{ForAccepted, ForTie};
-ghost use Rattle.group_commit.specs.Next.{durable_part, with_batch, with_area, IsNext};
-ghost use Rattle.commit_hub.specs.Told.{IsUnasked, IsBrought, IsLook, IsWindow};
-ghost use Rattle.gated_journal.specs.Works.{flown_by};
+ghost use Rattle.group_commit.specs.Next.{durable_part};
+ghost use Rattle.commit_hub.specs.Told.{IsUnasked, IsLook, IsWindow};
+ghost use Rattle.commit_hub.specs.Rounds.{IsFailed, IsLanded, IsLaunched};
 
 use crate::blanks::Blanks;
 use crate::ledgers::NodeLedger;
@@ -167,16 +166,8 @@ impl<A: NodeLedger> Hub<A> {
     /// none waits. It fits a journal of the node that has what the tie knows. Refused as 9 where the hub has failed, as
     /// 12 where a batch or a checkpoint is flying, and as 8.
     pub fn launch<R: Wait>(&self, rt: &R, tie: &mut Tie<A>) -> Result<Option<Work>, Refusal>
-        ensures next { IfOk result (λ some. IfSome some (IsNext A.member A.opening (known_by tie.old))) }
-        ensures none { IfOk result (λ some. IfNone some (A.opened ≤ A.opening.inputs + length (known_by tie.old).inputs)) }
-        ensures based { (known_by tie.old).base.inputs ≤ length (known_by tie.old).inputs }
+        ensures tied { IsLaunched tie.old tie.new result }
         ensures done { IfOk result (λ some. IfNone some ((view_by tie.new).done ≡ true)) }
-        ensures flies { IfOk result (λ some. MatchOption some (objection_to tie.new ≡ None) (λ work. (view_by tie.new).flying ≡ flown_by work)) }
-        ensures cause { IfErr result (IsNotLaunched tie.old) }
-        ensures idle { OnOk result (objection_to tie.old ≡ None) }
-        ensures tie { known_by tie.new ≡ known_by tie.old }
-        ensures works { (view_by tie.new).failed ≡ (view_by tie.old).failed }
-        ensures waits { OnErr result (objection_to tie.new ≡ objection_to tie.old) }
     {
         let mut guard = self.bells.wait_for_work(rt, self.guarded.lock(rt));
         guard.locked.launch(tie)
@@ -191,20 +182,7 @@ impl<A: NodeLedger> Hub<A> {
         tie: &mut Tie<A>,
         receipt: Receipt,
     ) -> Result<Landed, (Receipt, Refusal)>
-        ensures count { IfOk result (λ landed. landed.count ≡ length (receipted receipt).inputs) }
-        ensures kind { IfOk result (λ landed. landed.is_checkpoint ≡ is_checkpoint (receipted receipt)) }
-        ensures few { IfOk result (λ landed. length landed.notices.items ≤ landed.count) }
-        ensures again { IfOk result (λ landed. landed.again.items ≡ landed.notices.items) }
-        ensures brought { IfOk result (λ landed. IsBrought A.member A.opening (known_by tie.old).inputs (receipted receipt).inputs landed) }
-        ensures batch { OnOk result ((receipted receipt).snapshot ≡ None → known_by tie.new ≡ with_batch (known_by tie.old) (receipted receipt).inputs) }
-        ensures checkpoint { OnOk result ((bytes : ℕ) → (receipted receipt).snapshot ≡ Some bytes → known_by tie.new ≡ with_area (known_by tie.old) (receipted receipt).inputs bytes) }
-        ensures flew { OnOk result ((view_by tie.old).flying ≡ receipted receipt) }
-        ensures worked { OnOk result ((view_by tie.old).failed ≡ false) }
-        ensures free { OnOk result (objection_to tie.new ≡ None) }
-        ensures refusal { IfErr result (λ e. e.1 ≡ Refusal.Foreign) }
-        ensures cause { OnErr result ((view_by tie.old).flying ≡ receipted receipt → (view_by tie.old).failed ≡ false → ⊥) }
-        ensures back { IfErr result (λ e. receipted e.0 ≡ receipted receipt) }
-        ensures tie { OnErr result (view_by tie.new ≡ view_by tie.old) }
+        ensures { IsLanded tie.old tie.new receipt result }
     {
         let mut guard = self.guarded.lock(rt);
         match guard.locked.land(tie, receipt) {
@@ -226,14 +204,7 @@ impl<A: NodeLedger> Hub<A> {
         tie: &mut Tie<A>,
         spoiled: Spoiled,
     ) -> Result<(), (Spoiled, Refusal)>
-        ensures flew { OnOk result ((view_by tie.old).flying ≡ lost spoiled) }
-        ensures failed { OnOk result ((view_by tie.new).failed ≡ true) }
-        ensures refusal { IfErr result (λ e. e.1 ≡ Refusal.Foreign) }
-        ensures cause { OnErr result ((view_by tie.old).flying ≡ lost spoiled → ⊥) }
-        ensures back { IfErr result (λ e. lost e.0 ≡ lost spoiled) }
-        ensures tie { known_by tie.new ≡ known_by tie.old }
-        ensures flies { (view_by tie.new).flying ≡ (view_by tie.old).flying }
-        ensures works { OnErr result ((view_by tie.new).failed ≡ (view_by tie.old).failed) }
+        ensures { IsFailed tie.old tie.new spoiled result }
     {
         let mut guard = self.guarded.lock(rt);
         match guard.locked.fail(tie, spoiled) {

@@ -1,28 +1,28 @@
 //! What lies under a hub's lock: its desk, the book of its ledger, and what its tie knows too.
-ghost use Rattle.std.specs.Prelude.{◌≡◌, ◌≢◌, ◌↔◌, ◌+◌, ◌-◌, ◌≤◌, ◌<◌, ◌⊎◌, ◌||◌, ◌&&◌, ℕ, List, IsTrue, true, false, length, Some, None, IfOk, IfErr, IfNone, IfSome, MatchOption, OnOk, OnErr};
+ghost use Rattle.std.specs.Prelude.{◌≡◌, ◌↔◌, ◌+◌, ◌-◌, ◌≤◌, ◌<◌, ◌⊎◌, ◌&&◌, List, IsTrue, true, false, length, Some, None, IfOk, IfErr, IfNone, MatchOption, OnOk, OnErr};
 ghost use Rattle.ring_records.specs.declared.input.Input.{Input};
 ghost use Rattle.ring_records.specs.Answer.{Answered};
 ghost use Rattle.ring_records.specs.States.{durable_in};
 ghost use Rattle.ring_records.specs.Lawful.{IsNodeState};
 ghost use Rattle.ring_records.specs.Props.{IsNodeState-prop};
 ghost use Rattle.ring_records.specs.Release.{packets, notices, window};
-ghost use Rattle.gated_journal.specs.Batch.{is_checkpoint, landed as receipted, lost};
+ghost use Rattle.gated_journal.specs.Batch.{landed as receipted, lost};
 ghost use Rattle.group_commit.specs.Desk.{seen, ended, landed, objection, IsSubmitted, IsAnswer, IsHere, IsSealed};
 ghost use Rattle.group_commit.specs.DeskCalls.{let_go, IsFlying};
 ghost use Rattle.group_commit.specs.Launching.{launch_objection, launched_next, IsNoWork, IsUnlaunched, IsWorkOf};
 ghost use Rattle.node_core.specs.Core.{IsNodeOf};
-ghost use Rattle.group_commit.specs.Next.{durable_part, with_batch, with_area, IsNext};
+ghost use Rattle.group_commit.specs.Next.{durable_part};
 ghost use Rattle.group_commit.specs.Past.{IsPast};
 ghost use Rattle.group_commit.specs.Ticket.{shown};
 ghost use Rattle.commit_hub.specs.Desks.{flying_part, is_done, is_resting};
 ghost use Rattle.commit_hub.specs.Over.{is_over};
-ghost use Rattle.commit_hub.specs.Holders.{begun_by, count_of, known_by, objection_to, view_by, IsNotLaunched};
+ghost use Rattle.commit_hub.specs.Holders.{begun_by, count_of, known_by, objection_to, view_by};
 ghost use Rattle.commit_hub.specs.Pages.{ForAccepted, ForTie};
 ghost use Rattle.commit_hub.specs.Places.{places_of};
 ghost use Rattle.commit_hub.specs.Props.{member-prop, summary-prop, names-prop, durable-prop, flying-prop, IsNextArea-prop};
-ghost use Rattle.commit_hub.specs.Told.{IsBrought, IsWindow};
+ghost use Rattle.commit_hub.specs.Told.{IsWindow};
 ghost use Rattle.commit_hub.specs.Works.{IsNextArea, stays_wanted};
-ghost use Rattle.gated_journal.specs.Works.{flown_by};
+ghost use Rattle.commit_hub.specs.Rounds.{IsFailed, IsLanded, IsLaunched};
 ghost use Rattle.ring_records.specs.declared.reply.Reply.TheVariants as replied;
 
 mod looks;
@@ -224,22 +224,14 @@ impl<A: NodeLedger> Locked<A> {
     /// batch, as on the desk. It fits a journal of the node that has what the tie knows. What was refused before wants none
     /// behind a checkpoint.
     pub(crate) fn launch(&mut self, tie: &mut Tie<A>) -> Result<Option<Work>, Refusal>
-        ensures next { IfOk result (λ some. IfSome some (IsNext A.member A.opening (known_by tie.old))) }
-        ensures none { IfOk result (λ some. IfNone some (A.opened ≤ A.opening.inputs + length (known_by tie.old).inputs)) }
+        ensures tied { IsLaunched tie.old tie.new result }
         ensures done { IfOk result (λ some. IfNone some (is_resting self.old.is_wanted self.old.shared.desk ≡ false → (view_by tie.new).done ≡ true)) }
-        ensures flies { IfOk result (λ some. MatchOption some (objection_to tie.new ≡ None) (λ work. (view_by tie.new).flying ≡ flown_by work)) }
-        ensures cause { IfErr result (IsNotLaunched tie.old) }
-        ensures idle { OnOk result (objection_to tie.old ≡ None) }
-        ensures based { (known_by tie.old).base.inputs ≤ length (known_by tie.old).inputs }
         ensures work { IfOk result (λ some. MatchOption some (IsNoWork self.old.is_wanted self.old.shared.desk) (IsWorkOf self.old.is_wanted self.old.shared.desk self.new.shared.desk)) }
         ensures desk { OnOk result (self.new.shared.desk ≡ launched_next self.old.is_wanted self.old.shared.desk) }
         ensures wanted { self.new.is_wanted ≡ stays_wanted self.old.is_wanted result }
         ensures free { OnOk result (launch_objection self.old.shared.desk.view ≡ None) }
         ensures refusal { IfErr result (IsUnlaunched self.old.shared.desk) }
         ensures same { OnErr result (self.new.shared.desk ≡ self.old.shared.desk) }
-        ensures tie { known_by tie.new ≡ known_by tie.old }
-        ensures works { (view_by tie.new).failed ≡ (view_by tie.old).failed }
-        ensures waits { OnErr result (objection_to tie.new ≡ objection_to tie.old) }
     {
         let Locked {
             shared: SharedDesk { desk },
@@ -264,28 +256,16 @@ impl<A: NodeLedger> Locked<A> {
         tie: &mut Tie<A>,
         receipt: Receipt,
     ) -> Result<Landed, (Receipt, Refusal)>
+        ensures tied { IsLanded tie.old tie.new receipt result }
         ensures flying { OnOk result (IsFlying self.old.shared.desk (receipted receipt)) }
         ensures works { OnOk result (self.old.shared.desk.view.failed ≡ false) }
-        ensures count { IfOk result (λ landed. landed.count ≡ length (receipted receipt).inputs) }
-        ensures kind { IfOk result (λ landed. landed.is_checkpoint ≡ is_checkpoint (receipted receipt)) }
-        ensures few { IfOk result (λ landed. length landed.notices.items ≤ landed.count) }
-        ensures again { IfOk result (λ landed. landed.again.items ≡ landed.notices.items) }
-        ensures brought { IfOk result (λ landed. IsBrought A.member A.opening (known_by tie.old).inputs (receipted receipt).inputs landed) }
         ensures packets { IfOk result (λ landed. (past : List Input) → IsPast A.member A.opening past
             → landed.packets.items ≡ packets A.member.node (durable_in (seen past self.old.shared.desk).state) (receipted receipt).inputs) }
         ensures notices { IfOk result (λ landed. (past : List Input) → IsPast A.member A.opening past
             → landed.notices.items ≡ notices A.member.node (durable_in (seen past self.old.shared.desk).state) (receipted receipt).inputs) }
         ensures next { OnOk result (self.new.shared.desk ≡ record self.old.shared.desk { view = landed self.old.shared.desk.view }) }
-        ensures batch { OnOk result ((receipted receipt).snapshot ≡ None → known_by tie.new ≡ with_batch (known_by tie.old) (receipted receipt).inputs) }
-        ensures checkpoint { OnOk result ((bytes : ℕ) → (receipted receipt).snapshot ≡ Some bytes → known_by tie.new ≡ with_area (known_by tie.old) (receipted receipt).inputs bytes) }
-        ensures flew { OnOk result ((view_by tie.old).flying ≡ receipted receipt) }
-        ensures worked { OnOk result ((view_by tie.old).failed ≡ false) }
-        ensures free { OnOk result (objection_to tie.new ≡ None) }
-        ensures foreign { IfErr result (λ e. (e.1 ≡ Refusal.Foreign) × (IsFlying self.old.shared.desk (receipted receipt) → self.old.shared.desk.view.failed ≡ false → ⊥)) }
-        ensures cause { OnErr result ((view_by tie.old).flying ≡ receipted receipt → (view_by tie.old).failed ≡ false → ⊥) }
-        ensures back { IfErr result (λ e. receipted e.0 ≡ receipted receipt) }
+        ensures foreign { OnErr result (IsFlying self.old.shared.desk (receipted receipt) → self.old.shared.desk.view.failed ≡ false → ⊥) }
         ensures same { OnErr result (self.new.shared.desk ≡ self.old.shared.desk) }
-        ensures tie { OnErr result (view_by tie.new ≡ view_by tie.old) }
     {
         let Locked {
             shared: SharedDesk { desk },
@@ -311,17 +291,11 @@ impl<A: NodeLedger> Locked<A> {
         tie: &mut Tie<A>,
         spoiled: Spoiled,
     ) -> Result<(), (Spoiled, Refusal)>
+        ensures tied { IsFailed tie.old tie.new spoiled result }
         ensures flying { OnOk result (IsFlying self.old.shared.desk (lost spoiled)) }
         ensures next { OnOk result (self.new.shared.desk ≡ record self.old.shared.desk { view = record self.old.shared.desk.view { failed = true } }) }
-        ensures flew { OnOk result ((view_by tie.old).flying ≡ lost spoiled) }
-        ensures failed { OnOk result ((view_by tie.new).failed ≡ true) }
-        ensures foreign { IfErr result (λ e. (e.1 ≡ Refusal.Foreign) × (IsFlying self.old.shared.desk (lost spoiled) → ⊥)) }
-        ensures cause { OnErr result ((view_by tie.old).flying ≡ lost spoiled → ⊥) }
-        ensures back { IfErr result (λ e. lost e.0 ≡ lost spoiled) }
+        ensures foreign { OnErr result (IsFlying self.old.shared.desk (lost spoiled) → ⊥) }
         ensures same { OnErr result (self.new.shared.desk ≡ self.old.shared.desk) }
-        ensures tie { known_by tie.new ≡ known_by tie.old }
-        ensures flies { (view_by tie.new).flying ≡ (view_by tie.old).flying }
-        ensures works { OnErr result ((view_by tie.new).failed ≡ (view_by tie.old).failed) }
     {
         let Locked {
             shared: SharedDesk { desk },

@@ -18,6 +18,7 @@ pub mod Kept
 pub mod FewFloors
 pub mod FramesAlone
 pub mod Once
+pub mod OnlyReads
 pub mod Pieces
 pub mod Reader
 pub mod Results

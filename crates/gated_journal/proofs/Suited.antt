@@ -1,5 +1,5 @@
 -- Which inputs an area of a layout may hold.
-use Rattle.std.proofs.Common.{◌≡◌, ◌≤◌, ℕ, false, arith, List, [], ◌∷◌, refl}
+use Rattle.std.proofs.Common.{◌≡◌, ◌≤◌, ℕ, false, arith, List, [], ◌∷◌}
 use Rattle.std.specs.List.{list_any}
 use Rattle.std.proofs.lemmas.Bool.{lt-ltb, or_parts}
 use Rattle.ring_records.specs.declared.input.Input.{Input}

@@ -6,7 +6,7 @@ use Rattle.ring_records.specs.Admission.{epochs, newest}
 use Rattle.ring_records.specs.Member.{Member}
 use Rattle.ring_records.specs.Snapshot.{Spells, snapshot_of, snapshot_len}
 use Rattle.ring_records.specs.Summary.{empty}
-use Rattle.gated_journal.specs.Frames.{ReadsTo, body, frames, IsBatch}
+use Rattle.gated_journal.specs.Frames.{ReadsTo, body, IsBatch}
 use Rattle.gated_journal.specs.Reading.{Reading, mark}
 use Rattle.gated_journal.specs.Areas.{HasBase, ReadsAt}
 use Rattle.disk_model.specs.Calls.{Changes}

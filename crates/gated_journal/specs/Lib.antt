@@ -11,6 +11,7 @@ pub mod Journal
 pub mod Listed
 pub mod Newer
 pub mod NextFrame
+pub mod OnlyReads
 pub mod Opened
 pub mod Pieces
 pub mod Place
@@ -18,5 +19,6 @@ pub mod Props
 pub mod Reading
 pub mod Sizes
 pub mod Unread
+pub mod Written
 pub mod WorkTaken
 pub mod Works

@@ -32,7 +32,10 @@ pub record IsFault (before now : ℕ) (refusal : Refusal) : Type 0 where
   pub is : refusal ≡ Device now
   pub rises : min (before + 1) (2 ^ 64 - 1) ≤ now
 
--- why a journal is not opened: the device failed, a growth was refused behind a header without fault, or the image does
--- not read
+-- why no journal is read: a growth was refused behind a header without fault, or the image does not read
+abbrev pub IsNoJournal : ℕ → ℕ → List ℕ → Refusal → Type 0
+IsNoJournal node n image refusal = ((capacity : ℕ) × (header_at node n image ≡ Ok capacity) × (refusal ≡ OutOfMemory)) ⊎ IsUnread node n image refusal
+
+-- why a journal is not opened: the device failed, or no journal is read
 pub record IsUnopened (node n before now : ℕ) (image : List ℕ) (refusal : Refusal) : Type 0 where
-  pub cause : IsFault before now refusal ⊎ (((capacity : ℕ) × (header_at node n image ≡ Ok capacity) × (refusal ≡ OutOfMemory)) ⊎ IsUnread node n image refusal)
+  pub cause : IsFault before now refusal ⊎ IsNoJournal node n image refusal

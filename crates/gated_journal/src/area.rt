@@ -1,13 +1,12 @@
 //! The heads of a journal's two areas, and which of them is read.
-ghost use Rattle.std.specs.Prelude.{◌≡◌, ◌+◌, ◌≤◌, ◌<◌, ◌^◌, ◌⊎◌, ℕ, List, length, Decides, MatchOption, IfOk, IfErr, OnOk};
-ghost use Rattle.disk_model.specs.Disk.{MayLeave, LeavesOnly, Reaches};
-ghost use Rattle.disk_model.specs.Calls.{IsPart, IsInReach};
+ghost use Rattle.std.specs.Prelude.{◌≡◌, ◌+◌, ◌≤◌, ◌<◌, ◌^◌, ℕ, List, length, Decides, MatchOption, IfOk, IfErr};
+ghost use Rattle.disk_model.specs.Calls.{IsPart};
 ghost use Rattle.gated_journal.specs.Areas.{area_a, area_b, AreAreas, Counts};
 ghost use Rattle.gated_journal.specs.AreaWritten.{leaves_closed};
 ghost use Rattle.gated_journal.specs.Choose.{IsChosen, IsUnchosen, IsPlainly};
 ghost use Rattle.gated_journal.specs.InUse.{IsHeadOf, IsUsed, IsUsedPlainly, IsInUseBy, IsMarked, start_of, other_of};
 ghost use Rattle.gated_journal.specs.Damage.{AreAreasUnread};
-ghost use Rattle.gated_journal.specs.Unread.{IsFault};
+ghost use Rattle.gated_journal.specs.OnlyReads.{OnlyReads, NoCause};
 
 use crate::layout::{AREA_A, area_b, is_layout};
 use crate::read::read_part;
@@ -167,12 +166,7 @@ fn pick(a: &Head, b: &Head, capacity: u32, is_old: bool, size: u64) -> Result<Ch
 // Reads the first bytes of the area at `start`. Those that the device does not have are 0, and are not asked for.
 fn head_bytes<D: Device>(device: &mut D, start: u64) -> Result<[u8; 14], Refusal>
     ensures part { IfOk result (λ bytes. IsPart start bytes (D.disk device.old).image) }
-    ensures disk { D.disk device.new ≡ D.disk device.old }
-    ensures any_moment { LeavesOnly D.clock D.left_since device.old device.new (MayLeave (D.disk device.old)) }
-    ensures fault { IfErr result (λ refusal. IsFault (D.count device.old) (D.count device.new) refusal) }
-    ensures later { D.count device.old ≤ D.count device.new }
-    ensures same { OnOk result (D.count device.new ≡ D.count device.old) }
-    ensures reach { IsInReach (length (D.disk device.old).image) (D.reach device.old) (D.reach device.new) result }
+    ensures device { OnlyReads D.Device device.old device.new result NoCause }
 {
     let mut bytes = [0; 14];
     let size = device.size();
@@ -188,12 +182,7 @@ fn head_bytes<D: Device>(device: &mut D, start: u64) -> Result<[u8; 14], Refusal
 // Reads the head of the area at `start`.
 fn read_head<D: Device>(device: &mut D, start: u64) -> Result<Head, Refusal>
     ensures head { IfOk result (λ head. IsHeadOf head start (D.disk device.old).image) }
-    ensures disk { D.disk device.new ≡ D.disk device.old }
-    ensures any_moment { LeavesOnly D.clock D.left_since device.old device.new (MayLeave (D.disk device.old)) }
-    ensures fault { IfErr result (λ refusal. IsFault (D.count device.old) (D.count device.new) refusal) }
-    ensures later { D.count device.old ≤ D.count device.new }
-    ensures same { OnOk result (D.count device.new ≡ D.count device.old) }
-    ensures reach { IsInReach (length (D.disk device.old).image) (D.reach device.old) (D.reach device.new) result }
+    ensures device { OnlyReads D.Device device.old device.new result NoCause }
 {
     match head_bytes(device, start) {
         Ok(bytes) => Ok(head_in(&bytes)),
@@ -205,12 +194,7 @@ fn read_head<D: Device>(device: &mut D, start: u64) -> Result<Head, Refusal>
 fn read_heads<D: Device>(device: &mut D, capacity: u32) -> Result<(Head, Head), Refusal>
     ensures a { IfOk result (λ heads. IsHeadOf heads.0 area_a (D.disk device.old).image) }
     ensures b { IfOk result (λ heads. IsHeadOf heads.1 (area_b capacity) (D.disk device.old).image) }
-    ensures disk { D.disk device.new ≡ D.disk device.old }
-    ensures any_moment { LeavesOnly D.clock D.left_since device.old device.new (MayLeave (D.disk device.old)) }
-    ensures fault { IfErr result (λ refusal. IsFault (D.count device.old) (D.count device.new) refusal) }
-    ensures later { D.count device.old ≤ D.count device.new }
-    ensures same { OnOk result (D.count device.new ≡ D.count device.old) }
-    ensures reach { IsInReach (length (D.disk device.old).image) (D.reach device.old) (D.reach device.new) result }
+    ensures device { OnlyReads D.Device device.old device.new result NoCause }
 {
     match read_head(device, AREA_A) {
         Err(refusal) => Err(refusal),
@@ -231,14 +215,7 @@ pub(crate) fn choose_area<D: Device>(
     requires long { area_a ≤ length (D.disk device.old).image }
     requires marked { IsMarked is_old (D.disk device.old).image }
     ensures used { IfOk result (λ chosen. IsInUseBy capacity (D.disk device.old).image chosen) }
-    ensures disk { D.disk device.new ≡ D.disk device.old }
-    ensures any_moment { LeavesOnly D.clock D.left_since device.old device.new (MayLeave (D.disk device.old)) }
-    ensures refusal { IfErr result (λ refusal. IsFault (D.count device.old) (D.count device.new) refusal ⊎ ((n : ℕ) → AreAreasUnread n capacity (D.disk device.old).image refusal)) }
-    ensures later { D.count device.old ≤ D.count device.new }
-    ensures same { OnOk result (D.count device.new ≡ D.count device.old) }
-    ensures first { IfErr result (λ refusal. IsFault (D.count device.old) (D.count device.new) refusal ⊎ (D.count device.new ≡ D.count device.old)) }
-    ensures works { Reaches (D.reach device.old) (length (D.disk device.old).image) → IfErr result (λ refusal. (n : ℕ) → AreAreasUnread n capacity (D.disk device.old).image refusal) }
-    ensures reach { D.reach device.new ≡ D.reach device.old }
+    ensures device { OnlyReads D.Device device.old device.new result (λ refusal. (n : ℕ) → AreAreasUnread n capacity (D.disk device.old).image refusal) }
 {
     match read_heads(device, capacity) {
         Err(refusal) => Err(refusal),

@@ -1,13 +1,11 @@
 //! What the area that is read holds.
-ghost use Rattle.std.specs.Prelude.{ℕ, ◌≡◌, ◌+◌, ◌≤◌, ◌⊎◌, length, IfOk, IfErr, OnOk};
-ghost use Rattle.disk_model.specs.Disk.{MayLeave, LeavesOnly, Reaches};
-ghost use Rattle.ring_records.specs.declared.refusal.Refusal.TheVariants.{OutOfMemory};
+ghost use Rattle.std.specs.Prelude.{ℕ, ◌+◌, ◌≤◌, length, IfOk};
 ghost use Rattle.gated_journal.specs.Areas.{area_a, Begins, HasBase, head_len};
 ghost use Rattle.gated_journal.specs.InUse.{IsUsed, IsUsedPlainly, IsInUseBy, IsMarked, reading_of};
 ghost use Rattle.gated_journal.specs.Damage.{AreAreasUnread, IsPlainBroken};
 ghost use Rattle.gated_journal.specs.Feeding.{IsAreaAt, IsContentless};
 ghost use Rattle.gated_journal.specs.Frames.{ReadsTo};
-ghost use Rattle.gated_journal.specs.Unread.{IsFault};
+ghost use Rattle.gated_journal.specs.OnlyReads.{OnlyReads, MemoryOr};
 
 use crate::area::{Chosen, choose_area};
 use crate::feeding::feed_all;
@@ -35,14 +33,7 @@ fn read_contents<D: Device>(
 ) -> Result<Contents, Refusal>
     requires there { start ≤ length (D.disk device.old).image }
     ensures area { IfOk result (λ found. IsAreaAt layout n start (D.disk device.old).image found.base found.inputs.items found.gate_at) }
-    ensures disk { D.disk device.new ≡ D.disk device.old }
-    ensures any_moment { LeavesOnly D.clock D.left_since device.old device.new (MayLeave (D.disk device.old)) }
-    ensures refusal { IfErr result (λ refusal. IsFault (D.count device.old) (D.count device.new) refusal ⊎ IsContentless layout n start (D.disk device.old).image refusal) }
-    ensures later { D.count device.old ≤ D.count device.new }
-    ensures same { OnOk result (D.count device.new ≡ D.count device.old) }
-    ensures first { IfErr result (λ refusal. IsFault (D.count device.old) (D.count device.new) refusal ⊎ (D.count device.new ≡ D.count device.old)) }
-    ensures works { Reaches (D.reach device.old) (length (D.disk device.old).image) → IfErr result (λ refusal. IsContentless layout n start (D.disk device.old).image refusal) }
-    ensures reach { D.reach device.new ≡ D.reach device.old }
+    ensures device { OnlyReads D.Device device.old device.new result (IsContentless layout n start (D.disk device.old).image) }
 {
     match feed_all(alloc, device, layout, n, start) {
         Err(refusal) => Err(refusal),
@@ -69,15 +60,7 @@ fn read_plainly<D: Device>(
     ensures begins { IfOk result (λ found. (n : ℕ) → Begins n chosen.now.start (D.disk device.old).image (reading_of chosen.now found) chosen.now.offset) }
     ensures frames { IfOk result (λ found. ReadsTo chosen.now.layout chosen.now.offset (D.disk device.old).image found.inputs.items found.gate_at) }
     ensures within { IfOk result (λ found. found.gate_at ≤ chosen.now.start + head_len + capacity) }
-    ensures disk { D.disk device.new ≡ D.disk device.old }
-    ensures any_moment { LeavesOnly D.clock D.left_since device.old device.new (MayLeave (D.disk device.old)) }
-    ensures refusal { IfErr result (λ refusal. IsFault (D.count device.old) (D.count device.new) refusal ⊎ ((refusal ≡ OutOfMemory) ⊎ IsPlainBroken capacity (D.disk device.old).image refusal)) }
-    ensures later { D.count device.old ≤ D.count device.new }
-    ensures same { OnOk result (D.count device.new ≡ D.count device.old) }
-    ensures first { IfErr result (λ refusal. IsFault (D.count device.old) (D.count device.new) refusal ⊎ (D.count device.new ≡ D.count device.old)) }
-    ensures works { Reaches (D.reach device.old) (length (D.disk device.old).image)
-        → IfErr result (λ refusal. (refusal ≡ OutOfMemory) ⊎ IsPlainBroken capacity (D.disk device.old).image refusal) }
-    ensures reach { D.reach device.new ≡ D.reach device.old }
+    ensures device { OnlyReads D.Device device.old device.new result (MemoryOr (IsPlainBroken capacity (D.disk device.old).image)) }
 {
     let bound = AREA_A + 14 + u64::from(capacity);
     match read_list(alloc, device, AREA_A) {
@@ -108,15 +91,7 @@ fn read_in_area<D: Device>(
     ensures base { IfOk result (λ found. HasBase n chosen.now.start (D.disk device.old).image (reading_of chosen.now found) chosen.now.offset) }
     ensures frames { IfOk result (λ found. ReadsTo chosen.now.layout chosen.now.offset (D.disk device.old).image found.inputs.items found.gate_at) }
     ensures within { IfOk result (λ found. found.gate_at ≤ chosen.now.start + head_len + capacity) }
-    ensures disk { D.disk device.new ≡ D.disk device.old }
-    ensures any_moment { LeavesOnly D.clock D.left_since device.old device.new (MayLeave (D.disk device.old)) }
-    ensures refusal { IfErr result (λ refusal. IsFault (D.count device.old) (D.count device.new) refusal ⊎ ((refusal ≡ OutOfMemory) ⊎ AreAreasUnread n capacity (D.disk device.old).image refusal)) }
-    ensures later { D.count device.old ≤ D.count device.new }
-    ensures same { OnOk result (D.count device.new ≡ D.count device.old) }
-    ensures first { IfErr result (λ refusal. IsFault (D.count device.old) (D.count device.new) refusal ⊎ (D.count device.new ≡ D.count device.old)) }
-    ensures works { Reaches (D.reach device.old) (length (D.disk device.old).image)
-        → IfErr result (λ refusal. (refusal ≡ OutOfMemory) ⊎ AreAreasUnread n capacity (D.disk device.old).image refusal) }
-    ensures reach { D.reach device.new ≡ D.reach device.old }
+    ensures device { OnlyReads D.Device device.old device.new result (MemoryOr (AreAreasUnread n capacity (D.disk device.old).image)) }
 {
     let bound = chosen.start + 14 + u64::from(capacity);
     match read_contents(alloc, device, chosen.layout, n, chosen.start) {
@@ -143,15 +118,7 @@ fn read_area<D: Device>(
     ensures begins { IfOk result (λ found. Begins n chosen.now.start (D.disk device.old).image (reading_of chosen.now found) chosen.now.offset) }
     ensures frames { IfOk result (λ found. ReadsTo chosen.now.layout chosen.now.offset (D.disk device.old).image found.inputs.items found.gate_at) }
     ensures within { IfOk result (λ found. found.gate_at ≤ chosen.now.start + head_len + capacity) }
-    ensures disk { D.disk device.new ≡ D.disk device.old }
-    ensures any_moment { LeavesOnly D.clock D.left_since device.old device.new (MayLeave (D.disk device.old)) }
-    ensures refusal { IfErr result (λ refusal. IsFault (D.count device.old) (D.count device.new) refusal ⊎ ((refusal ≡ OutOfMemory) ⊎ AreAreasUnread n capacity (D.disk device.old).image refusal)) }
-    ensures later { D.count device.old ≤ D.count device.new }
-    ensures same { OnOk result (D.count device.new ≡ D.count device.old) }
-    ensures first { IfErr result (λ refusal. IsFault (D.count device.old) (D.count device.new) refusal ⊎ (D.count device.new ≡ D.count device.old)) }
-    ensures works { Reaches (D.reach device.old) (length (D.disk device.old).image)
-        → IfErr result (λ refusal. (refusal ≡ OutOfMemory) ⊎ AreAreasUnread n capacity (D.disk device.old).image refusal) }
-    ensures reach { D.reach device.new ≡ D.reach device.old }
+    ensures device { OnlyReads D.Device device.old device.new result (MemoryOr (AreAreasUnread n capacity (D.disk device.old).image)) }
 {
     if chosen.layout < OLDEST_AREA {
         return read_plainly(alloc, device, capacity, chosen);
@@ -173,15 +140,7 @@ pub(crate) fn read_areas<D: Device>(
     ensures begins { IfOk result (λ r. Begins n r.0.start (D.disk device.old).image (reading_of r.0 r.1) r.0.offset) }
     ensures frames { IfOk result (λ r. ReadsTo r.0.layout r.0.offset (D.disk device.old).image r.1.inputs.items r.1.gate_at) }
     ensures within { IfOk result (λ r. r.1.gate_at ≤ r.0.start + head_len + capacity) }
-    ensures disk { D.disk device.new ≡ D.disk device.old }
-    ensures any_moment { LeavesOnly D.clock D.left_since device.old device.new (MayLeave (D.disk device.old)) }
-    ensures refusal { IfErr result (λ refusal. IsFault (D.count device.old) (D.count device.new) refusal ⊎ ((refusal ≡ OutOfMemory) ⊎ AreAreasUnread n capacity (D.disk device.old).image refusal)) }
-    ensures later { D.count device.old ≤ D.count device.new }
-    ensures same { OnOk result (D.count device.new ≡ D.count device.old) }
-    ensures first { IfErr result (λ refusal. IsFault (D.count device.old) (D.count device.new) refusal ⊎ (D.count device.new ≡ D.count device.old)) }
-    ensures works { Reaches (D.reach device.old) (length (D.disk device.old).image)
-        → IfErr result (λ refusal. (refusal ≡ OutOfMemory) ⊎ AreAreasUnread n capacity (D.disk device.old).image refusal) }
-    ensures reach { D.reach device.new ≡ D.reach device.old }
+    ensures device { OnlyReads D.Device device.old device.new result (MemoryOr (AreAreasUnread n capacity (D.disk device.old).image)) }
 {
     match choose_area(device, capacity, is_old) {
         Err(refusal) => Err(refusal),

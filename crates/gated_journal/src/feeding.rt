@@ -1,10 +1,8 @@
 //! Feeds a reader the area of a device, piece after piece.
-ghost use Rattle.std.specs.Prelude.{◌≡◌, ◌+◌, ◌≤◌, ◌<◌, ◌^◌, ◌⊎◌, length, take, drop, Ok, IfOk, IfErr, OnOk};
-ghost use Rattle.disk_model.specs.Disk.{MayLeave, LeavesOnly, Reaches};
-ghost use Rattle.ring_records.specs.declared.refusal.Refusal.TheVariants.{OutOfMemory};
+ghost use Rattle.std.specs.Prelude.{◌≡◌, ◌+◌, ◌≤◌, ◌<◌, ◌^◌, length, take, drop, Ok, IfOk};
 ghost use Rattle.gated_journal.specs.Feeding.{IsFed, IsContentless};
 ghost use Rattle.gated_journal.specs.Pieces.{with_piece, IsPieceDamaged};
-ghost use Rattle.gated_journal.specs.Unread.{IsFault};
+ghost use Rattle.gated_journal.specs.OnlyReads.{OnlyReads, MemoryOr};
 
 use crate::read::read_part;
 use crate::{AreaReader, Fed};
@@ -26,16 +24,7 @@ fn feed_from<D: Device>(
     requires there { at + length piece.old ≤ length (D.disk device.old).image }
     requires small { at + length piece.old < 2 ^ 64 }
     ensures fed { IfOk result (λ told. reader.new ≡ with_piece reader.old (take (length piece.old) (drop at (D.disk device.old).image)) (Ok told)) }
-    ensures disk { D.disk device.new ≡ D.disk device.old }
-    ensures any_moment { LeavesOnly D.clock D.left_since device.old device.new (MayLeave (D.disk device.old)) }
-    ensures refusal { IfErr result (λ refusal. IsFault (D.count device.old) (D.count device.new) refusal
-        ⊎ ((refusal ≡ OutOfMemory) ⊎ IsPieceDamaged reader.old (take (length piece.old) (drop at (D.disk device.old).image)) refusal)) }
-    ensures later { D.count device.old ≤ D.count device.new }
-    ensures same { OnOk result (D.count device.new ≡ D.count device.old) }
-    ensures first { IfErr result (λ refusal. IsFault (D.count device.old) (D.count device.new) refusal ⊎ (D.count device.new ≡ D.count device.old)) }
-    ensures works { Reaches (D.reach device.old) (length (D.disk device.old).image)
-        → IfErr result (λ refusal. (refusal ≡ OutOfMemory) ⊎ IsPieceDamaged reader.old (take (length piece.old) (drop at (D.disk device.old).image)) refusal) }
-    ensures reach { D.reach device.new ≡ D.reach device.old }
+    ensures device { OnlyReads D.Device device.old device.new result (MemoryOr (IsPieceDamaged reader.old (take (length piece.old) (drop at (D.disk device.old).image)))) }
 {
     if let Err(refusal) = read_part(device, at, piece) {
         return Err(refusal);
@@ -55,14 +44,7 @@ pub(crate) fn feed_all<D: Device>(
     requires there { start ≤ length (D.disk device.old).image }
     ensures fed { IfOk result (λ reader. IsFed layout n start (D.disk device.old).image reader) }
     ensures small { IfOk result (λ reader. reader.offset + length reader.bytes < 2 ^ 64) }
-    ensures disk { D.disk device.new ≡ D.disk device.old }
-    ensures any_moment { LeavesOnly D.clock D.left_since device.old device.new (MayLeave (D.disk device.old)) }
-    ensures refusal { IfErr result (λ refusal. IsFault (D.count device.old) (D.count device.new) refusal ⊎ IsContentless layout n start (D.disk device.old).image refusal) }
-    ensures later { D.count device.old ≤ D.count device.new }
-    ensures same { OnOk result (D.count device.new ≡ D.count device.old) }
-    ensures first { IfErr result (λ refusal. IsFault (D.count device.old) (D.count device.new) refusal ⊎ (D.count device.new ≡ D.count device.old)) }
-    ensures works { Reaches (D.reach device.old) (length (D.disk device.old).image) → IfErr result (λ refusal. IsContentless layout n start (D.disk device.old).image refusal) }
-    ensures reach { D.reach device.new ≡ D.reach device.old }
+    ensures device { OnlyReads D.Device device.old device.new result (IsContentless layout n start (D.disk device.old).image) }
 {
     let size = device.size();
     let mut reader = AreaReader::new(alloc, start, layout, n);

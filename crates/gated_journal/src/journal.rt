@@ -12,8 +12,7 @@ ghost use Rattle.gated_journal.specs.Place.{IsInUse};
 ghost use Rattle.gated_journal.specs.Reading.{Reading, device_size, with_more, fresh_area, is_header};
 ghost use Rattle.gated_journal.specs.Opened.{reading_of_opening, count_in, used_in};
 ghost use Rattle.gated_journal.specs.Unread.{IsFault, IsUnread, IsUnopened};
-ghost use Rattle.gated_journal.specs.Works.{flown_by, summary_by, reading_after};
-ghost use Rattle.gated_journal.specs.WorkTaken.{count_after, room_after, layout_after, epoch_after, IsTaken};
+ghost use Rattle.gated_journal.specs.WorkTaken.{IsTaken};
 
 use crate::area::Chosen;
 use crate::contents::Contents;
@@ -38,8 +37,10 @@ pub struct Journal<D: Device> {
 }
 
 impl<D: Device> Journal<D> {
-    ghost use Rattle.gated_journal.specs.Batch.{shown, numbered_by, base_by, landed, lost};
+    ghost use Rattle.gated_journal.specs.Batch.{shown, numbered_by, base_by};
     ghost use Rattle.gated_journal.specs.Journal.{device_of, member_of, len_of, room_of, layout_of, epoch_of, is_spoiled};
+    ghost use Rattle.gated_journal.specs.Written.{IsWritten};
+    ghost use Rattle.gated_journal.specs.declared.work.Work.TheVariants as Work;
 
     /// A journal without inputs: one write and one sync, and between them a write of one byte that closes area B, where
     /// the device goes that far. Refused as 2 where `n` is not 2 to 16, `node` is above it, or the capacity is not 4,096 to 1,048,576
@@ -275,26 +276,7 @@ impl<D: Device> Journal<D> {
         requires first { (shown batch).first ≡ len_of self.old }
         requires room { costs_of (shown batch).inputs ≤ room_of self.old }
         requires suits { AreSuited (layout_of self.old) (shown batch).inputs }
-
-        // A stop at any moment of the call leaves what was read before it, with the whole batch or without.
-        ensures any_moment { (r : Reading) → AllReadAs (member_of self.old) (D.disk (device_of self.old)) r
-            → LeavesOnly D.clock D.left_since (device_of self.old) (device_of self.new) (ReadsAsOneOf (member_of self.old) r (with_more r (shown batch).inputs)) }
-
-        // At `Ok` the batch is durable.
-        ensures durable { OnOk result ((r : Reading) → AllReadAs (member_of self.old) (D.disk (device_of self.old)) r
-            → AllReadAs (member_of self.old) (D.disk (device_of self.new)) (with_more r (shown batch).inputs)) }
-        ensures spoils { is_spoiled self.new ≡ is_err result }
-        ensures cause { HasCause (D.count (device_of self.old)) (D.count (device_of self.new)) result }
-        ensures works { Reaches (D.reach (device_of self.old)) (device_size (member_of self.old).capacity) → IsOk result }
-        ensures reach { D.reach (device_of self.new) ≡ D.reach (device_of self.old) }
-        ensures receipt { IfOk result (λ receipt. landed receipt ≡ shown batch) }
-        ensures spoiled { IfErr result (λ spoiled. lost spoiled ≡ shown batch) }
-        ensures header { member_of self.new ≡ member_of self.old }
-        ensures len { OnOk result (len_of self.new ≡ len_of self.old + length (shown batch).inputs) }
-        ensures kept { OnErr result ((len_of self.new ≡ len_of self.old) × (room_of self.new ≡ room_of self.old)) }
-        ensures left { OnOk result (room_of self.new ≡ room_of self.old - costs_of (shown batch).inputs) }
-        ensures layout { layout_of self.new ≡ layout_of self.old }
-        ensures epoch { epoch_of self.new ≡ epoch_of self.old }
+        ensures { IsWritten self.old self.new (Work.Batch batch) result }
     {
         self.write(Work::Batch(batch))
     }
@@ -308,27 +290,7 @@ impl<D: Device> Journal<D> {
         requires fits { snapshot_len newest (base_by checkpoint) ≤ (member_of self.old).capacity }
         requires sound { IsSound (member_of self.old).n (base_by checkpoint) }
         requires epoch { epoch_of self.old + 1 < 2 ^ 40 }
-
-        // A stop at any moment of the call leaves what was read before it, or the summary and no inputs behind it.
-        ensures any_moment { (r : Reading) → AllReadAs (member_of self.old) (D.disk (device_of self.old)) r
-            → LeavesOnly D.clock D.left_since (device_of self.old) (device_of self.new) (ReadsAsOneOf (member_of self.old) r (fresh_area newest (epoch_of self.old + 1) (base_by checkpoint))) }
-
-        // At `Ok` the summary is durable.
-        ensures durable { OnOk result ((r : Reading) → AllReadAs (member_of self.old) (D.disk (device_of self.old)) r
-            → AllReadAs (member_of self.old) (D.disk (device_of self.new)) (fresh_area newest (epoch_of self.old + 1) (base_by checkpoint))) }
-        ensures spoils { is_spoiled self.new ≡ is_err result }
-        ensures cause { HasCause (D.count (device_of self.old)) (D.count (device_of self.new)) result }
-        ensures works { Reaches (D.reach (device_of self.old)) (device_size (member_of self.old).capacity) → IsOk result }
-        ensures reach { D.reach (device_of self.new) ≡ D.reach (device_of self.old) }
-        ensures receipt { IfOk result (λ receipt. landed receipt ≡ numbered_by checkpoint) }
-        ensures spoiled { IfErr result (λ spoiled. lost spoiled ≡ numbered_by checkpoint) }
-        ensures header { member_of self.new ≡ member_of self.old }
-        ensures len { OnOk result (len_of self.new ≡ (base_by checkpoint).inputs) }
-        ensures room { OnOk result (room_of self.new ≡ (member_of self.old).capacity - snapshot_len newest (base_by checkpoint)) }
-        ensures layout { OnOk result (layout_of self.new ≡ newest) }
-        ensures next { OnOk result (epoch_of self.new ≡ epoch_of self.old + 1) }
-        ensures kept { OnErr result ((len_of self.new ≡ len_of self.old) × (room_of self.new ≡ room_of self.old)
-            × (epoch_of self.new ≡ epoch_of self.old) × (layout_of self.new ≡ layout_of self.old)) }
+        ensures { IsWritten self.old self.new (Work.Checkpoint checkpoint) result }
     {
         self.write(Work::Checkpoint(checkpoint))
     }
@@ -337,28 +299,7 @@ impl<D: Device> Journal<D> {
     pub fn write(&mut self, work: Work) -> Result<Receipt, Spoiled>
         requires ready { is_spoiled self.old ≡ false }
         requires taken { IsTaken (member_of self.old) (len_of self.old) (room_of self.old) (layout_of self.old) (epoch_of self.old) work }
-
-        // A stop at any moment of the call leaves what was read before it, or what is read behind the work.
-        ensures any_moment { (r : Reading) → AllReadAs (member_of self.old) (D.disk (device_of self.old)) r
-            → LeavesOnly D.clock D.left_since (device_of self.old) (device_of self.new)
-            (ReadsAsOneOf (member_of self.old) r (reading_after (epoch_of self.old) (summary_by work) (flown_by work).inputs r)) }
-
-        // At `Ok` it is durable.
-        ensures durable { OnOk result ((r : Reading) → AllReadAs (member_of self.old) (D.disk (device_of self.old)) r
-            → AllReadAs (member_of self.old) (D.disk (device_of self.new)) (reading_after (epoch_of self.old) (summary_by work) (flown_by work).inputs r)) }
-        ensures spoils { is_spoiled self.new ≡ is_err result }
-        ensures cause { HasCause (D.count (device_of self.old)) (D.count (device_of self.new)) result }
-        ensures works { Reaches (D.reach (device_of self.old)) (device_size (member_of self.old).capacity) → IsOk result }
-        ensures reach { D.reach (device_of self.new) ≡ D.reach (device_of self.old) }
-        ensures receipt { IfOk result (λ receipt. landed receipt ≡ flown_by work) }
-        ensures spoiled { IfErr result (λ spoiled. lost spoiled ≡ flown_by work) }
-        ensures header { member_of self.new ≡ member_of self.old }
-        ensures len { OnOk result (len_of self.new ≡ count_after (summary_by work) (length (flown_by work).inputs) (len_of self.old)) }
-        ensures room { OnOk result (room_of self.new ≡ room_after (flown_by work).snapshot (member_of self.old).capacity (costs_of (flown_by work).inputs) (room_of self.old)) }
-        ensures layout { OnOk result (layout_of self.new ≡ layout_after (flown_by work).snapshot (layout_of self.old)) }
-        ensures epoch { OnOk result (epoch_of self.new ≡ epoch_after (flown_by work).snapshot (epoch_of self.old)) }
-        ensures kept { OnErr result ((len_of self.new ≡ len_of self.old) × (room_of self.new ≡ room_of self.old)
-            × (epoch_of self.new ≡ epoch_of self.old) × (layout_of self.new ≡ layout_of self.old)) }
+        ensures { IsWritten self.old self.new work result }
     {
         self.is_spoiled = true;
         let (flown, next, written) = self.place.put(&mut self.device, work);

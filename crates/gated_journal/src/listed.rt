@@ -1,12 +1,11 @@
 //! Frames alone, read from a device piece after piece.
-ghost use Rattle.std.specs.Prelude.{◌≡◌, ◌+◌, ◌*◌, ◌-◌, ◌++◌, ◌⊎◌, ◌<◌, ◌≤◌, ◌^◌, ℕ, List, length, take, drop, vec_len, vec_capacity, IfOk, IfErr, OnOk};
+ghost use Rattle.std.specs.Prelude.{◌≡◌, ◌+◌, ◌*◌, ◌-◌, ◌++◌, ◌<◌, ◌≤◌, ◌^◌, ℕ, List, length, take, drop, vec_len, vec_capacity, IfOk};
 ghost use Rattle.ring_records.specs.declared.refusal.Refusal.TheVariants.{OutOfMemory};
-ghost use Rattle.disk_model.specs.Disk.{MayLeave, LeavesOnly, Reaches};
 ghost use Rattle.gated_journal.specs.Damage.{IsBroken};
 ghost use Rattle.gated_journal.specs.Found.{IsWaiting};
 ghost use Rattle.gated_journal.specs.Frames.{ReadsTo};
 ghost use Rattle.gated_journal.specs.Listed.{Lists, IsListed};
-ghost use Rattle.gated_journal.specs.Unread.{IsFault};
+ghost use Rattle.gated_journal.specs.OnlyReads.{OnlyReads, MemoryOr};
 
 use crate::feeding::PIECE;
 use crate::found::Stage;
@@ -75,14 +74,7 @@ fn list_next<D: Device>(
     ensures waits { IfOk result (λ next. IsWaiting next.0 rest.new.items) }
     ensures damaged { IfOk result (λ next. (p : ℕ) → next.0 ≡ Stage.Damaged p → p ≡ at + next.1) }
     ensures size { IfOk result (λ next. next.1 ≤ length rest.old.items + length piece.old) }
-    ensures disk { D.disk device.new ≡ D.disk device.old }
-    ensures any_moment { LeavesOnly D.clock D.left_since device.old device.new (MayLeave (D.disk device.old)) }
-    ensures refusal { IfErr result (λ refusal. IsFault (D.count device.old) (D.count device.new) refusal ⊎ (refusal ≡ OutOfMemory)) }
-    ensures later { D.count device.old ≤ D.count device.new }
-    ensures same { OnOk result (D.count device.new ≡ D.count device.old) }
-    ensures first { IfErr result (λ refusal. IsFault (D.count device.old) (D.count device.new) refusal ⊎ (D.count device.new ≡ D.count device.old)) }
-    ensures works { Reaches (D.reach device.old) (length (D.disk device.old).image) → IfErr result (λ refusal. refusal ≡ OutOfMemory) }
-    ensures reach { D.reach device.new ≡ D.reach device.old }
+    ensures device { OnlyReads D.Device device.old device.new result (λ refusal. refusal ≡ OutOfMemory) }
 {
     if let Err(refusal) = read_part(device, at + rest.len() as u64, piece) {
         return Err(refusal);
@@ -102,14 +94,7 @@ pub(crate) fn read_list<D: Device>(
 ) -> Result<(Vec<Input>, u64), Refusal>
     requires there { start ≤ length (D.disk device.old).image }
     ensures reads { IfOk result (λ r. ReadsTo 1 start (D.disk device.old).image r.0.items r.1) }
-    ensures disk { D.disk device.new ≡ D.disk device.old }
-    ensures any_moment { LeavesOnly D.clock D.left_since device.old device.new (MayLeave (D.disk device.old)) }
-    ensures refusal { IfErr result (λ refusal. IsFault (D.count device.old) (D.count device.new) refusal ⊎ ((refusal ≡ OutOfMemory) ⊎ IsBroken 1 start (D.disk device.old).image refusal)) }
-    ensures later { D.count device.old ≤ D.count device.new }
-    ensures same { OnOk result (D.count device.new ≡ D.count device.old) }
-    ensures first { IfErr result (λ refusal. IsFault (D.count device.old) (D.count device.new) refusal ⊎ (D.count device.new ≡ D.count device.old)) }
-    ensures works { Reaches (D.reach device.old) (length (D.disk device.old).image) → IfErr result (λ refusal. (refusal ≡ OutOfMemory) ⊎ IsBroken 1 start (D.disk device.old).image refusal) }
-    ensures reach { D.reach device.new ≡ D.reach device.old }
+    ensures device { OnlyReads D.Device device.old device.new result (MemoryOr (IsBroken 1 start (D.disk device.old).image)) }
 {
     let size = device.size();
     let mut inputs = Vec::new(alloc);

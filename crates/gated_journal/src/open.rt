@@ -1,17 +1,15 @@
 //! What a device holds, read from its start.
-ghost use Rattle.std.specs.Prelude.{◌≡◌, ◌≤◌, ◌⊎◌, ℕ, List, Ok, Err, length, take, IfOk, IfErr, OnOk, OnErr};
-ghost use Rattle.disk_model.specs.Disk.{MayLeave, LeavesOnly, Reaches, synced};
+ghost use Rattle.std.specs.Prelude.{◌≡◌, ℕ, List, Ok, Err, take, IfOk, IfErr, OnOk};
+ghost use Rattle.disk_model.specs.Disk.{MayLeave};
 ghost use Rattle.disk_model.specs.Synced.{IsSynced};
-ghost use Rattle.disk_model.specs.Calls.{IsInReach};
-ghost use Rattle.ring_records.specs.declared.refusal.Refusal.TheVariants.{OutOfMemory};
 ghost use Rattle.ring_records.specs.Member.{member};
 ghost use Rattle.gated_journal.specs.Areas.{ReadsAt};
 ghost use Rattle.gated_journal.specs.AreaWritten.{IsGate};
 ghost use Rattle.gated_journal.specs.InUse.{reading_of, IsMarked};
 ghost use Rattle.std.specs.Str.{bytes_eq};
 ghost use Rattle.gated_journal.specs.Reading.{old_mark};
-ghost use Rattle.gated_journal.specs.Frames.{ReadsTo};
-ghost use Rattle.gated_journal.specs.Unread.{head_at, header_at, IsFault, IsUnread, IsUnopened};
+ghost use Rattle.gated_journal.specs.OnlyReads.{OnlyReads, SyncsAndReads, NoCause};
+ghost use Rattle.gated_journal.specs.Unread.{head_at, header_at, IsNoJournal};
 
 use crate::area::Chosen;
 use crate::contents::{Contents, read_areas};
@@ -31,15 +29,8 @@ pub(crate) struct Opened {
 // Makes what a read gives stable.
 fn settle<D: Device>(device: &mut D) -> Result<(), Refusal>
     ensures synced { OnOk result (IsSynced (D.disk device.new)) }
-    ensures disk { OnOk result (D.disk device.new ≡ synced (D.disk device.old)) }
-    ensures failed { OnErr result (D.disk device.new ≡ D.disk device.old) }
-    ensures image { (D.disk device.new).image ≡ (D.disk device.old).image }
-    ensures stays { (image : List ℕ) → MayLeave (D.disk device.new) image → MayLeave (D.disk device.old) image }
-    ensures any_moment { LeavesOnly D.clock D.left_since device.old device.new (MayLeave (D.disk device.old)) }
-    ensures fault { IfErr result (λ refusal. IsFault (D.count device.old) (D.count device.new) refusal) }
-    ensures later { D.count device.old ≤ D.count device.new }
-    ensures same { OnOk result (D.count device.new ≡ D.count device.old) }
-    ensures reach { IsInReach 0 (D.reach device.old) (D.reach device.new) result }
+    ensures narrows { (image : List ℕ) → MayLeave (D.disk device.new) image → MayLeave (D.disk device.old) image }
+    ensures device { SyncsAndReads D.Device device.old device.new result NoCause }
 {
     match device.sync() {
         Ok(()) => Ok(()),
@@ -86,28 +77,12 @@ fn header_of(head: &[u8; 16], node: NodeNo, n: u8) -> Result<(u32, bool), Refusa
     }
 }
 
-// Makes the device stable, and reads its header: the capacity, and whether its mark is that of a journal that began without
-// areas.
+// Reads the header: the capacity, and whether its mark is that of a journal that began without areas.
 fn read_header<D: Device>(device: &mut D, node: NodeNo, n: u8) -> Result<(u32, bool), Refusal>
     ensures header { IfOk result (λ found. header_at node n (D.disk device.old).image ≡ Ok found.0) }
     ensures marked { IfOk result (λ found. IsMarked found.1 (D.disk device.old).image) }
-    ensures synced { OnOk result (IsSynced (D.disk device.new)) }
-    ensures disk { OnOk result (D.disk device.new ≡ synced (D.disk device.old)) }
-    ensures kept { (D.disk device.new ≡ D.disk device.old) ⊎ (D.disk device.new ≡ synced (D.disk device.old)) }
-    ensures stable { IfErr result (λ refusal. IsFault (D.count device.old) (D.count device.new) refusal ⊎ (D.disk device.new ≡ synced (D.disk device.old))) }
-    ensures image { (D.disk device.new).image ≡ (D.disk device.old).image }
-    ensures stays { (image : List ℕ) → MayLeave (D.disk device.new) image → MayLeave (D.disk device.old) image }
-    ensures any_moment { LeavesOnly D.clock D.left_since device.old device.new (MayLeave (D.disk device.old)) }
-    ensures refusal { IfErr result (λ refusal. IsFault (D.count device.old) (D.count device.new) refusal ⊎ (header_at node n (D.disk device.old).image ≡ Err refusal)) }
-    ensures later { D.count device.old ≤ D.count device.new }
-    ensures same { OnOk result (D.count device.new ≡ D.count device.old) }
-    ensures first { IfErr result (λ refusal. IsFault (D.count device.old) (D.count device.new) refusal ⊎ (D.count device.new ≡ D.count device.old)) }
-    ensures works { Reaches (D.reach device.old) (length (D.disk device.old).image) → IfErr result (λ refusal. header_at node n (D.disk device.old).image ≡ Err refusal) }
-    ensures reach { D.reach device.new ≡ D.reach device.old }
+    ensures device { OnlyReads D.Device device.old device.new result (λ refusal. header_at node n (D.disk device.old).image ≡ Err refusal) }
 {
-    if let Err(refusal) = settle(device) {
-        return Err(refusal);
-    }
     if device.size() < 17 {
         return Err(Refusal::NotFormatted);
     }
@@ -116,6 +91,31 @@ fn read_header<D: Device>(device: &mut D, node: NodeNo, n: u8) -> Result<(u32, b
         return Err(refusal);
     }
     header_of(&head, node, n)
+}
+
+// Reads what the device holds.
+fn read_journal<D: Device>(
+    alloc: Global,
+    device: &mut D,
+    node: NodeNo,
+    n: u8,
+) -> Result<Opened, Refusal>
+    ensures reads { IfOk result (λ opened. ReadsAt (member node n opened.capacity) (D.disk device.old).image (reading_of opened.area opened.contents)
+        opened.area.start opened.area.other opened.area.offset opened.contents.gate_at) }
+    ensures gate { IfOk result (λ opened. IsGate opened.area.is_closed opened.area.other (D.disk device.old).image) }
+    ensures device { OnlyReads D.Device device.old device.new result (IsNoJournal node n (D.disk device.old).image) }
+{
+    match read_header(device, node, n) {
+        Err(refusal) => Err(refusal),
+        Ok((capacity, is_old)) => match read_areas(alloc, device, n, capacity, is_old) {
+            Err(refusal) => Err(refusal),
+            Ok((area, contents)) => Ok(Opened {
+                capacity,
+                area,
+                contents,
+            }),
+        },
+    }
 }
 
 /// Makes the device stable, and reads what it holds: the journal of this node of a ring of `n`.
@@ -128,27 +128,10 @@ pub(crate) fn open<D: Device>(
     ensures reads { IfOk result (λ opened. ReadsAt (member node n opened.capacity) (D.disk device.old).image (reading_of opened.area opened.contents)
         opened.area.start opened.area.other opened.area.offset opened.contents.gate_at) }
     ensures gate { IfOk result (λ opened. IsGate opened.area.is_closed opened.area.other (D.disk device.old).image) }
-    ensures synced { OnOk result (IsSynced (D.disk device.new)) }
-    ensures disk { OnOk result (D.disk device.new ≡ synced (D.disk device.old)) }
-    ensures kept { (D.disk device.new ≡ D.disk device.old) ⊎ (D.disk device.new ≡ synced (D.disk device.old)) }
-    ensures stable { IfErr result (λ refusal. IsFault (D.count device.old) (D.count device.new) refusal ⊎ (D.disk device.new ≡ synced (D.disk device.old))) }
-    ensures same { OnOk result (D.count device.new ≡ D.count device.old) }
-    ensures first { IfErr result (λ refusal. IsFault (D.count device.old) (D.count device.new) refusal ⊎ (D.count device.new ≡ D.count device.old)) }
-    ensures image { (D.disk device.new).image ≡ (D.disk device.old).image }
-    ensures any_moment { LeavesOnly D.clock D.left_since device.old device.new (MayLeave (D.disk device.old)) }
-    ensures refusal { IfErr result (λ refusal. IsUnopened node n (D.count device.old) (D.count device.new) (D.disk device.old).image refusal) }
-    ensures works { Reaches (D.reach device.old) (length (D.disk device.old).image) → IfErr result (λ refusal. (refusal ≡ OutOfMemory) ⊎ IsUnread node n (D.disk device.old).image refusal) }
-    ensures reach { D.reach device.new ≡ D.reach device.old }
+    ensures device { SyncsAndReads D.Device device.old device.new result (IsNoJournal node n (D.disk device.old).image) }
 {
-    match read_header(device, node, n) {
+    match settle(device) {
         Err(refusal) => Err(refusal),
-        Ok((capacity, is_old)) => match read_areas(alloc, device, n, capacity, is_old) {
-            Err(refusal) => Err(refusal),
-            Ok((area, contents)) => Ok(Opened {
-                capacity,
-                area,
-                contents,
-            }),
-        },
+        Ok(()) => read_journal(alloc, device, node, n),
     }
 }

@@ -44,6 +44,7 @@ use Rattle.group_commit.proofs.Past.{flying-shifted}
 use Rattle.group_commit.proofs.Seen.{launched_shifted, landed_shifted, lawful_launched_all}
 use Rattle.gated_journal.specs.declared.work.Work.{Work}
 use Rattle.gated_journal.specs.declared.work.Work.TheVariants as work
+use Rattle.node_store.specs.Flushed.{IsNotFlushed}
 use Rattle.node_store.specs.Unbegun.{IsUnbegun}
 use Rattle.node_store.specs.Standing.{Stands}
 use Rattle.node_store.specs.Flying.{Flies}
@@ -142,6 +143,12 @@ module _ {D : Type 0} {g : Ghosts D} (desk : DeskKept) (journal : Journal D g) (
   pub launch_refused : (why : Refusal)
       → (launch_objection desk.view ≡ Some why) ⊎ ((launch_objection desk.view ≡ None) × (why ≡ refused.OutOfMemory)) → (why ≡ refused.Failed) ⊎ (why ≡ refused.OutOfMemory)
   launch_refused why is = ⊎_elim (λ told. inl (failed_or why told).1) (λ short. inr short.1) is
+
+  pub not_launched : (why : Refusal) (before now : ℕ)
+      → (launch_objection desk.view ≡ Some why) ⊎ ((launch_objection desk.view ≡ None) × (why ≡ refused.OutOfMemory)) → IsNotFlushed desk.view.failed before now why
+  not_launched why before now (inl told) = let is = failed_or why told in (λ failed. is.1, λ works. let never = sym is.0 ∙ works in absurd cc)
+  not_launched why before now (inr short) =
+      (λ failed. let never = sym failed ∙ works_launched desk.view.failed refused.Failed (if is_idle desk.view.state then None else Some refused.Busy) short.0 in absurd cc, λ works. inr short.1)
 
   pub objects : (why : Refusal) → checkpoint_objection desk ≡ Some why → ((desk.view.failed ≡ true) × (why ≡ refused.Failed)) ⊎ ((why ≡ refused.Limit) ⊎ (why ≡ refused.Full))
   objects why is = ⊎_elim (λ told. inl (failed_or why told)) (λ other. inr other)

@@ -15,11 +15,3 @@ of_value (Err e) P B C p b from_p from_b = from_b b
 pub ok_of_all : {T E : Type 0} (r : Result T E) (A B C D : Type 0) → (A → B → C → D) → OnOk r A → OnOk r B → OnOk r C → OnOk r D
 ok_of_all (Ok x) A B C D f a b c = f a b c
 ok_of_all (Err e) A B C D f a b c = tt
-
--- refused, all is as it was, or what was launched is gone with the device
-pub refused_by : {T : Type 0} (r : Result T Refusal) (IsFault : Refusal → Type 0) (Same Gone : Type 0) (failed : Bool)
-    → IfErr r (λ why. failed ≡ false → IsFault why ⊎ (why ≡ OutOfMemory)) → IfErr r (λ why. failed ≡ true → why ≡ Failed)
-    → IfErr r (λ why. IsFault why → Gone) → IfErr r (λ why. (why ≡ Failed) ⊎ (why ≡ OutOfMemory) → Same) → OnErr r (Same ⊎ Gone)
-refused_by (Ok x) IsFault Same Gone failed cause first fault same = tt
-refused_by (Err why) IsFault Same Gone true cause first fault same = inl (same (inl (first refl)))
-refused_by (Err why) IsFault Same Gone false cause first fault same = ⊎_elim (λ broken. inr (fault broken)) (λ short. inl (same (inr short))) (cause refl)

@@ -27,16 +27,10 @@ use Rattle.group_commit.specs.Past.{IsPast}
 use Rattle.group_commit.specs.Ticket.{TicketView}
 use Rattle.group_commit.proofs.Seen.{submitted_seen, lawful_seen}
 use Rattle.node_store.specs.Standing.{ReadsOnce, Stands}
-use Rattle.node_store.specs.State.{Holds, MayBeLeft, durable_held, flown_held, until}
+use Rattle.node_store.specs.State.{Holds, MayBeLeft, durable_held, flown_held}
 use Rattle.node_store.proofs.Left.{may_be_left}
 
 -- ---- what a stop leaves
-
--- where a flush was refused: nothing was launched, or what was flies for good
-pub left_then : {Same : Type 0} (old new : DeskKept) → ((new ≡ old) × Same) ⊎ (new ≡ record old { view = record (launched old.view) { failed = true } })
-    → (image : List ℕ) → MayBeLeft (until old new) image → MayBeLeft new image
-left_then old new (inl same) image may = subst (λ (d : DeskKept). MayBeLeft (until old d) image → MayBeLeft d image) (sym same.0) (λ m. m) may
-left_then old new (inr gone) image may = subst (λ (d : DeskKept). MayBeLeft (until old d) image → MayBeLeft d image) (sym gone) (λ m. record { read = m.read; left = m.left }) may
 
 module _ {D : Type 0} {g : Ghosts D} (desk : DeskKept) (journal : Journal D g) (stands : Stands desk journal) where
   -- what every image reads as that a stop may leave

@@ -1,3 +1,4 @@
+pub mod Flushed
 pub mod Flying
 pub mod Node
 pub mod Props

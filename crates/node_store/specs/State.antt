@@ -72,7 +72,3 @@ pub record IsOpenedAs (m : Member) (run : ℕ) (s : NodeState) (desk : DeskKept)
   pub kept : desk ≡ new_desk m run (reading_of m.node s)
   pub past : IsPast m desk.opening (take s.base.inputs s.inputs)
   pub shows : seen (take s.base.inputs s.inputs) desk ≡ opened_view m run s
-
--- the old desk, with what the new one has durable or flying in flight
-abbrev pub until : DeskKept → DeskKept → DeskKept
-until old new = record old { view = record old.view { state = record old.view.state { flying = new.view.state.flying } } }

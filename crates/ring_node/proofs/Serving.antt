@@ -245,11 +245,6 @@ not_sealed desk ticket kept why here low sealed = elim sealed.cause [
 
 -- ---- want of memory alone
 
--- a device that fails gives another refusal
-pub no_fault : {before now : ℕ} {why : Refusal} → IsFault before now why ⊎ (why ≡ OutOfMemory) → why ≡ Failed → why ≡ OutOfMemory
-no_fault (inl fault) failed = let is = fault.is in absurd cc
-no_fault (inr short) failed = short
-
 -- what is wrong with an image is not that its device failed
 head_fault : (node n : ℕ) (image : List ℕ) (count : ℕ) → header_at node n image ≡ Err (Device count) → ⊥
 head_fault node n image count fault = grind (arith, nat_tests)

@@ -1,7 +1,8 @@
 -- What is left begins with the inputs that a token speaks of, and what rests on these rests on what is left.
 use Rattle.std.proofs.Common.{ℕ, ◌≤◌, List, ◌++◌, append_assoc, length, take, sym, ◌∙◌, ap, subst}
 use mathlib.Core.List.{IsPrefix}
-use Rattle.disk_model.specs.Disk.{Disk, MayLeave, LeavesOnly}
+use Rattle.disk_model.specs.declared.device.Device.{Ghosts}
+use Rattle.disk_model.specs.Disk.{MayLeave, LeavesOnly}
 use Rattle.disk_model.proofs.Moments.{weaken}
 use Rattle.ring_records.specs.declared.input.Input.{Input}
 use Rattle.ring_records.specs.declared.packet.Packet.{Packet}
@@ -43,15 +44,15 @@ known_sooner known before later begun p few =
 
 -- ---- what is left
 
-module _ {V : Type 0} (disk : V → Disk) (clock : V → ℕ) (left_since : V → ℕ → List ℕ → Type 0) (m : Member) (opening : Summary) where
+module _ {V : Type 0} (g : Ghosts V) (m : Member) (opening : Summary) where
   -- behind some rounds, at any moment of those after them
-  pub begins_behind : ((device : V) (image : List ℕ) → left_since device (clock device) image → MayLeave (disk device) image)
-      → (device : V) (known : Durable) (before later : List (Round V)) (begun : List Input) → IsHeld m opening (disk device) known
-      → AreRounds disk clock left_since m opening device known (before ++ later) → IsPrefix begun (known_since known before).inputs
-      → LeavesOnly clock left_since (device_behind device before) (device_behind device (before ++ later)) (Begins m opening begun)
+  pub begins_behind : ((device : V) (image : List ℕ) → g.left_since device (g.clock device) image → MayLeave (g.disk device) image)
+      → (device : V) (known : Durable) (before later : List (Round V)) (begun : List Input) → IsHeld m opening (g.disk device) known
+      → AreRounds g m opening device known (before ++ later) → IsPrefix begun (known_since known before).inputs
+      → LeavesOnly g.clock g.left_since (device_behind device before) (device_behind device (before ++ later)) (Begins m opening begun)
   begins_behind only device known before later begun held each p =
       let was : Durable = known_since known before in
-      weaken clock left_since (device_behind device before) (device_behind device (before ++ later)) (IsLeftBehind m opening was later) (Begins m opening begun)
+      weaken g.clock g.left_since (device_behind device before) (device_behind device (before ++ later)) (IsLeftBehind m opening was later) (Begins m opening begun)
       (λ image left past is.
       let some : Durable = known_since was (take left.count later) in
       record {
@@ -61,13 +62,13 @@ module _ {V : Type 0} (disk : V → Disk) (clock : V → ℕ) (left_since : V �
             prefix_trans (past ++ begun) (past ++ some.inputs) (left_by keep (shifted past (at_rest some))).inputs
             (prefix_behind past begun some.inputs (prefix_trans begun was.inputs some.inputs p (since_begins was (take left.count later)))) (begins_rest past some keep);
       })
-      (any_moment disk clock left_since m opening only device known before later held each)
+      (any_moment g m opening only device known before later held each)
 
   -- within a round that did not end
-  pub begins_cut : (old new : V) (known : Durable) (begun : List Input) → IsPrefix begun known.inputs → IsCut disk clock left_since m opening old new known
-      → LeavesOnly clock left_since old new (Begins m opening begun)
+  pub begins_cut : (old new : V) (known : Durable) (begun : List Input) → IsPrefix begun known.inputs → IsCut g m opening old new known
+      → LeavesOnly g.clock g.left_since old new (Begins m opening begun)
   begins_cut old new known begun p cut =
-      weaken clock left_since old new _ (Begins m opening begun)
+      weaken g.clock g.left_since old new _ (Begins m opening begun)
       (λ image left past is. record {
         state = shifted past (with_flying known cut.inputs cut.base);
         left = left.left past is;

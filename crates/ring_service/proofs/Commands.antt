@@ -4,7 +4,6 @@ use Rattle.std.specs.declared.alloc.AllocError.{AllocError}
 use Rattle.clap.specs.Words.{App, HasMatchesOf, Rule, app_of, with_rule}
 use Rattle.clap.specs.declared.builder.command.Command.{Command}
 use Rattle.clap.specs.declared.parser.matches.ArgMatches.{ArgMatches}
-use Rattle.ring_service.specs.Words.{ringd_app}
 
 -- one more argument
 pub adds : (app old named : App) (rule other : Rule) → app ≡ with_rule old rule → old ≡ named → rule ≡ other → app ≡ with_rule named other

@@ -5,7 +5,7 @@ use Rattle.std.proofs.lemmas.List.{take-append-drop}
 use Rattle.std.proofs.lemmas.List.Elements.{Contains-append_left, Contains-append_cases}
 use Rattle.std.proofs.lemmas.Option.{same_Some}
 use mathlib.Core.List.{IsPrefix}
-use Rattle.disk_model.specs.Disk.{Disk}
+use Rattle.disk_model.specs.declared.device.Device.{Ghosts}
 use Rattle.ring_records.specs.declared.base.Base.{Base}
 use Rattle.ring_records.specs.declared.candidate.Candidate.{Candidate}
 use Rattle.ring_records.specs.declared.decision.Decision.{Decision}
@@ -122,10 +122,10 @@ notices_joined : (me : ℕ) (h l more : List Input) → notices me h (l ++ more)
 unfolding notices
 notices_joined me h l more = found_after-append (told me) h l more
 
-pub told_since : {V : Type 0} (disk : V → Disk) (clock : V → ℕ) (left_since : V → ℕ → List ℕ → Type 0) (life : Life) (all : List Notice) (old new : V) (behind : Durable) (landed : Landed)
-    → IsPast life.member life.opening life.past → IsTold life all → IsRound disk clock left_since life.member life.opening old new life.known behind landed
+pub told_since : {V : Type 0} (g : Ghosts V) (life : Life) (all : List Notice) (old new : V) (behind : Durable) (landed : Landed)
+    → IsPast life.member life.opening life.past → IsTold life all → IsRound g life.member life.opening old new life.known behind landed
     → IsTold (record life { known = behind }) (all ++ landed.notices.items)
-told_since disk clock left_since life all old new behind landed past is round =
+told_since g life all old new behind landed past is round =
     let me = life.member.node in
     let h : List Input = life.past ++ is.first in
     let before : h ++ is.since ≡ life.past ++ life.known.inputs = append_assoc life.past is.first is.since ∙ ap (λ (l : List Input). life.past ++ l) is.inputs in

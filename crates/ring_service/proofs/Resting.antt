@@ -4,7 +4,8 @@ use Rattle.std.specs.List.{Contains, cons_option}
 use Rattle.std.specs.Option.{option_map}
 use Rattle.std.proofs.lemmas.List.{take_all}
 use mathlib.Core.List.{IsPrefix}
-use Rattle.disk_model.specs.Disk.{Disk, MayLeave, LeavesOnly}
+use Rattle.disk_model.specs.declared.device.Device.{Ghosts}
+use Rattle.disk_model.specs.Disk.{MayLeave, LeavesOnly}
 use Rattle.disk_model.proofs.Moments.{weaken}
 use Rattle.ring_records.specs.declared.decision.Decision.{Decision}
 use Rattle.ring_records.specs.declared.input.Input.{Input}
@@ -110,43 +111,43 @@ rests m past since round s image brought left begins = record {
       (found_leads m.node (past ++ since) round.inputs first.0 d (subst (λ (ns : List Notice). Contains ns (Decided d)) brought.notices has));
 }
 
-module _ {V : Type 0} (disk : V → Disk) (clock : V → ℕ) (left_since : V → ℕ → List ℕ → Type 0) (m : Member) (opening : Summary) where
+module _ {V : Type 0} (g : Ghosts V) (m : Member) (opening : Summary) where
   -- what the round brought
-  brings : (device : V) (known : Durable) (round : Round V) → IsRoundOf disk clock left_since m opening device known round → (past : List Input) → IsPast m opening past
+  brings : (device : V) (known : Durable) (round : Round V) → IsRoundOf g m opening device known round → (past : List Input) → IsPast m opening past
       → IsBroughtBehind m past known.inputs round.inputs round.landed
   brings device known round one past is = subst (λ (l : List Input). IsBroughtBehind m past known.inputs l round.landed) one.inputs (one.is.brought past is)
 
   -- over the rounds behind it
-  pub rests_behind : ((device : V) (image : List ℕ) → left_since device (clock device) image → MayLeave (disk device) image)
+  pub rests_behind : ((device : V) (image : List ℕ) → g.left_since device (g.clock device) image → MayLeave (g.disk device) image)
       → (device : V) (known : Durable) (before later : List (Round V)) (round : Round V)
-      → IsHeld m opening (disk device) known → AreRounds disk clock left_since m opening device known (before ++ round ∷ later)
-      → LeavesOnly clock left_since round.device (device_behind device (before ++ round ∷ later)) (RestsOn m opening (known_since known before) round)
+      → IsHeld m opening (g.disk device) known → AreRounds g m opening device known (before ++ round ∷ later)
+      → LeavesOnly g.clock g.left_since round.device (device_behind device (before ++ round ∷ later)) (RestsOn m opening (known_since known before) round)
   rests_behind only device known before later round held each =
-      let P : List (Round V) → Round V → Type 0 = IsOne disk clock left_since m opening device known in
-      let first = held_behind disk clock left_since m opening device known before held (EachAfter-front P [] before (round ∷ later) each) in
-      let rest = one_by_one disk clock left_since m opening device known before (round ∷ later) (EachAfter-behind P [] before (round ∷ later) each) in
+      let P : List (Round V) → Round V → Type 0 = IsOne g m opening device known in
+      let first = held_behind g m opening device known before held (EachAfter-front P [] before (round ∷ later) each) in
+      let rest = one_by_one g m opening device known before (round ∷ later) (EachAfter-behind P [] before (round ∷ later) each) in
       let was : Durable = known_since known before in
       let behind : Durable = known_behind round.base round.inputs was in
-      let next = steps disk clock left_since m opening (device_behind device before) was round first rest.0 in
-      subst (λ (d : V). LeavesOnly clock left_since round.device d (RestsOn m opening was round)) (sym (device_joined device before (round ∷ later)))
-      (weaken clock left_since round.device (device_behind round.device later) (IsLeftBehind m opening behind later) (RestsOn m opening was round)
+      let next = steps g m opening (device_behind device before) was round first rest.0 in
+      subst (λ (d : V). LeavesOnly g.clock g.left_since round.device d (RestsOn m opening was round)) (sym (device_joined device before (round ∷ later)))
+      (weaken g.clock g.left_since round.device (device_behind round.device later) (IsLeftBehind m opening behind later) (RestsOn m opening was round)
       (λ image left past is.
       let some : List (Round V) = take left.count later in
       rests m past was.inputs round (shifted past (at_rest (known_since behind some))) image (brings (device_behind device before) was round rest.0 past is) (left.left.left past is)
       (λ keep. prefix_trans ((past ++ was.inputs) ++ round.inputs) (past ++ (known_since behind some).inputs) (left_by keep (shifted past (at_rest (known_since behind some)))).inputs
       (begins_round past was round some) (begins_rest past (known_since behind some) keep)))
-      (each_moment disk clock left_since m opening only later round.device behind next rest.1))
+      (each_moment g m opening only later round.device behind next rest.1))
 
   -- over a round that did not end
-  pub rests_cut : (device : V) (known : Durable) (before later : List (Round V)) (round : Round V) (new : V) → AreRounds disk clock left_since m opening device known (before ++ round ∷ later)
-      → IsCut disk clock left_since m opening (device_behind device (before ++ round ∷ later)) new (known_since known (before ++ round ∷ later))
-      → LeavesOnly clock left_since (device_behind device (before ++ round ∷ later)) new (RestsOn m opening (known_since known before) round)
+  pub rests_cut : (device : V) (known : Durable) (before later : List (Round V)) (round : Round V) (new : V) → AreRounds g m opening device known (before ++ round ∷ later)
+      → IsCut g m opening (device_behind device (before ++ round ∷ later)) new (known_since known (before ++ round ∷ later))
+      → LeavesOnly g.clock g.left_since (device_behind device (before ++ round ∷ later)) new (RestsOn m opening (known_since known before) round)
   rests_cut device known before later round new each cut =
-      let P : List (Round V) → Round V → Type 0 = IsOne disk clock left_since m opening device known in
-      let rest = one_by_one disk clock left_since m opening device known before (round ∷ later) (EachAfter-behind P [] before (round ∷ later) each) in
+      let P : List (Round V) → Round V → Type 0 = IsOne g m opening device known in
+      let rest = one_by_one g m opening device known before (round ∷ later) (EachAfter-behind P [] before (round ∷ later) each) in
       let was : Durable = known_since known before in
       let all : Durable = known_since known (before ++ round ∷ later) in
-      weaken clock left_since (device_behind device (before ++ round ∷ later)) new _ (RestsOn m opening was round)
+      weaken g.clock g.left_since (device_behind device (before ++ round ∷ later)) new _ (RestsOn m opening was round)
       (λ image left past is.
       rests m past was.inputs round (shifted past (with_flying all cut.inputs cut.base)) image (brings (device_behind device before) was round rest.0 past is) (left.left past is)
       (λ keep.

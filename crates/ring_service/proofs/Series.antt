@@ -2,6 +2,7 @@
 use Rattle.std.proofs.Common.{◌≡◌, inl, inr, ℕ, suc, ◌+◌, ◌≤◌, Bool, true, false, List, [], ◌∷◌, ◌++◌, append_assoc, append-nil, length, length-append, take, drop, Option, Some, None, refl, sym, ◌∙◌, ap, subst, arith}
 use Rattle.std.proofs.lemmas.List.{drop-append-le, drop_all, take-append-le, take_all}
 use Rattle.std.proofs.lemmas.Option.{same_Some}
+use Rattle.disk_model.specs.declared.device.Device.{Ghosts}
 use Rattle.disk_model.specs.Disk.{Disk, MayLeave, LeavesOnly}
 use Rattle.disk_model.proofs.Moments.{joins, now, started, weaken}
 use Rattle.ring_records.specs.declared.base.Base.{Base}
@@ -171,14 +172,14 @@ opens_again m run s keep desk is =
 
 -- ---- from round to round
 
-module _ {V : Type 0} (disk : V → Disk) (clock : V → ℕ) (left_since : V → ℕ → List ℕ → Type 0) (m : Member) (opening : Summary) where
+module _ {V : Type 0} (g : Ghosts V) (m : Member) (opening : Summary) where
   abbrev pub IsOne : V → Durable → List (Round V) → Round V → Type 0
-  IsOne device known before round = IsRoundOf disk clock left_since m opening (device_behind device before) (known_since known before) round
+  IsOne device known before round = IsRoundOf g m opening (device_behind device before) (known_since known before) round
 
   -- the same of the rounds, one by one
   abbrev pub Each : V → Durable → List (Round V) → Type 0
   Each device known [] = Unit {0}
-  Each device known (round ∷ rounds) = IsRoundOf disk clock left_since m opening device known round × Each round.device (known_behind round.base round.inputs known) rounds
+  Each device known (round ∷ rounds) = IsRoundOf g m opening device known round × Each round.device (known_behind round.base round.inputs known) rounds
 
   pub one_by_one : (device : V) (known : Durable) (before later : List (Round V)) → EachAfter (IsOne device known) before later
       → Each (device_behind device before) (known_since known before) later
@@ -192,8 +193,8 @@ module _ {V : Type 0} (disk : V → Disk) (clock : V → ℕ) (left_since : V �
   )
 
   -- what a call tells of is a round
-  pub told : (old new : V) (before behind : Durable) (landed : Landed) → IsRound disk clock left_since m opening old new before behind landed
-      → (round : Round V) × (IsRoundOf disk clock left_since m opening old before round × ((round.device ≡ new) × (known_behind round.base round.inputs before ≡ behind)))
+  pub told : (old new : V) (before behind : Durable) (landed : Landed) → IsRound g m opening old new before behind landed
+      → (round : Round V) × (IsRoundOf g m opening old before round × ((round.device ≡ new) × (known_behind round.base round.inputs before ≡ behind)))
   told old new before behind landed is = (
     record { inputs = is.inputs; base = is.base; landed = landed; device = new },
     (
@@ -218,43 +219,43 @@ module _ {V : Type 0} (disk : V → Disk) (clock : V → ℕ) (left_since : V �
   )
 
   -- one round more
-  pub goes_on : (device : V) (known : Durable) (rounds : List (Round V)) (round : Round V) → AreRounds disk clock left_since m opening device known rounds
-      → IsRoundOf disk clock left_since m opening (device_behind device rounds) (known_since known rounds) round → AreRounds disk clock left_since m opening device known (rounds ++ round ∷ [])
+  pub goes_on : (device : V) (known : Durable) (rounds : List (Round V)) (round : Round V) → AreRounds g m opening device known rounds
+      → IsRoundOf g m opening (device_behind device rounds) (known_since known rounds) round → AreRounds g m opening device known (rounds ++ round ∷ [])
   goes_on device known rounds round each one = EachAfter-push (IsOne device known) [] rounds round each one
 
-  made_by : (device : V) (known : Durable) (round : Round V) → IsRoundOf disk clock left_since m opening device known round → IsMade m opening known round.inputs round.base
+  made_by : (device : V) (known : Durable) (round : Round V) → IsRoundOf g m opening device known round → IsMade m opening known round.inputs round.base
   made_by device known round one =
       subst (λ (l : List Input). IsMade m opening known l round.base) one.inputs (subst (λ (o : Option Summary). IsMade m opening known one.is.inputs o) one.base one.is.made)
 
   -- what is read behind a round
-  reads : (device : V) (known : Durable) (round : Round V) → IsHeld m opening (disk device) known → (one : IsRoundOf disk clock left_since m opening device known round)
+  reads : (device : V) (known : Durable) (round : Round V) → IsHeld m opening (g.disk device) known → (one : IsRoundOf g m opening device known round)
       → reading_after known.base.epoch one.is.base one.is.inputs (held_by m opening known) ≡ held_by m opening (known_behind round.base round.inputs known)
   reads device known round held one =
       (λ i. reading_after known.base.epoch (one.base i) (one.inputs i) (held_by m opening known)) ∙ read_behind m opening round.base round.inputs known held.based (made_by device known round one).summed
 
-  pub steps : (device : V) (known : Durable) (round : Round V) → IsHeld m opening (disk device) known → IsRoundOf disk clock left_since m opening device known round
-      → IsHeld m opening (disk round.device) (known_behind round.base round.inputs known)
+  pub steps : (device : V) (known : Durable) (round : Round V) → IsHeld m opening (g.disk device) known → IsRoundOf g m opening device known round
+      → IsHeld m opening (g.disk round.device) (known_behind round.base round.inputs known)
   steps device known round held one = record {
-    read = subst (λ (r : Reading). AllReadAs m (disk round.device) r) (reads device known round held one) (one.is.durable (held_by m opening known) held.read);
+    read = subst (λ (r : Reading). AllReadAs m (g.disk round.device) r) (reads device known round held one) (one.is.durable (held_by m opening known) held.read);
     based = based_behind round.base round.inputs known held.based;
     lawful = lawful_landed m opening round.base round.inputs known ((made_by device known round one).lawful held.lawful);
   }
 
-  held_each : (rounds : List (Round V)) (device : V) (known : Durable) → IsHeld m opening (disk device) known → Each device known rounds
-      → IsHeld m opening (disk (device_behind device rounds)) (known_since known rounds)
+  held_each : (rounds : List (Round V)) (device : V) (known : Durable) → IsHeld m opening (g.disk device) known → Each device known rounds
+      → IsHeld m opening (g.disk (device_behind device rounds)) (known_since known rounds)
   held_each [] device known held each = held
   held_each (round ∷ rounds) device known held each = held_each rounds round.device (known_behind round.base round.inputs known) (steps device known round held each.0) each.1
 
-  pub held_behind : (device : V) (known : Durable) (rounds : List (Round V)) → IsHeld m opening (disk device) known → AreRounds disk clock left_since m opening device known rounds
-      → IsHeld m opening (disk (device_behind device rounds)) (known_since known rounds)
+  pub held_behind : (device : V) (known : Durable) (rounds : List (Round V)) → IsHeld m opening (g.disk device) known → AreRounds g m opening device known rounds
+      → IsHeld m opening (g.disk (device_behind device rounds)) (known_since known rounds)
   held_behind device known rounds held each = held_each rounds device known held (one_by_one device known [] rounds each)
 
   -- ---- at each moment
 
-  module _ (only : (device : V) (image : List ℕ) → left_since device (clock device) image → MayLeave (disk device) image) where
+  module _ (only : (device : V) (image : List ℕ) → g.left_since device (g.clock device) image → MayLeave (g.disk device) image) where
     -- within a round
-    in_round : (device : V) (known : Durable) (round : Round V) (later : List (Round V)) → IsHeld m opening (disk device) known
-        → (one : IsRoundOf disk clock left_since m opening device known round) → (image : List ℕ)
+    in_round : (device : V) (known : Durable) (round : Round V) (later : List (Round V)) → IsHeld m opening (g.disk device) known
+        → (one : IsRoundOf g m opening device known round) → (image : List ℕ)
         → ReadsAsOneOf m (held_by m opening known) (reading_after known.base.epoch one.is.base one.is.inputs (held_by m opening known)) image → IsLeftBehind m opening known (round ∷ later) image
     in_round device known round later held one image (inl read) = record {
       count = 0;
@@ -270,40 +271,40 @@ module _ {V : Type 0} (disk : V → Disk) (clock : V → ℕ) (left_since : V �
               (subst (λ (r : Reading). ReadsAs m image r) (reads device known round held one) read);
         }
 
-    pub each_moment : (rounds : List (Round V)) (device : V) (known : Durable) → IsHeld m opening (disk device) known → Each device known rounds
-        → LeavesOnly clock left_since device (device_behind device rounds) (IsLeftBehind m opening known rounds)
-    each_moment [] device known held each = started clock left_since device (IsLeftBehind m opening known [])
+    pub each_moment : (rounds : List (Round V)) (device : V) (known : Durable) → IsHeld m opening (g.disk device) known → Each device known rounds
+        → LeavesOnly g.clock g.left_since device (device_behind device rounds) (IsLeftBehind m opening known rounds)
+    each_moment [] device known held each = started g.clock g.left_since device (IsLeftBehind m opening known [])
         (λ image left. record { count = 0; within = omega arith; left = rest_left m opening known held.based held.lawful image (held.read image (only device image left)) })
     each_moment (round ∷ rounds) device known held each =
         let behind : Durable = known_behind round.base round.inputs known in
-        joins clock left_since device round.device (device_behind round.device rounds) (IsLeftBehind m opening known (round ∷ rounds))
-        (weaken clock left_since device round.device _ (IsLeftBehind m opening known (round ∷ rounds)) (in_round device known round rounds held each.0) (each.0.is.within (held_by m opening known) held.read))
-        (weaken clock left_since round.device (device_behind round.device rounds) (IsLeftBehind m opening behind rounds) (IsLeftBehind m opening known (round ∷ rounds))
+        joins g.clock g.left_since device round.device (device_behind round.device rounds) (IsLeftBehind m opening known (round ∷ rounds))
+        (weaken g.clock g.left_since device round.device _ (IsLeftBehind m opening known (round ∷ rounds)) (in_round device known round rounds held each.0) (each.0.is.within (held_by m opening known) held.read))
+        (weaken g.clock g.left_since round.device (device_behind round.device rounds) (IsLeftBehind m opening behind rounds) (IsLeftBehind m opening known (round ∷ rounds))
         (λ image left. record { count = suc left.count; within = omega (arith, left.within); left = left.left })
         (each_moment rounds round.device behind (steps device known round held each.0) each.1))
 
-    pub any_moment : (device : V) (known : Durable) (before later : List (Round V)) → IsHeld m opening (disk device) known
-        → AreRounds disk clock left_since m opening device known (before ++ later)
-        → LeavesOnly clock left_since (device_behind device before) (device_behind device (before ++ later)) (IsLeftBehind m opening (known_since known before) later)
+    pub any_moment : (device : V) (known : Durable) (before later : List (Round V)) → IsHeld m opening (g.disk device) known
+        → AreRounds g m opening device known (before ++ later)
+        → LeavesOnly g.clock g.left_since (device_behind device before) (device_behind device (before ++ later)) (IsLeftBehind m opening (known_since known before) later)
     any_moment device known before later held each =
         let P : List (Round V) → Round V → Type 0 = IsOne device known in
         let first = held_behind device known before held (EachAfter-front P [] before later each) in
         let rest = one_by_one device known before later (EachAfter-behind P [] before later each) in
-        subst (λ (d : V). LeavesOnly clock left_since (device_behind device before) d (IsLeftBehind m opening (known_since known before) later)) (sym (device_joined device before later))
+        subst (λ (d : V). LeavesOnly g.clock g.left_since (device_behind device before) d (IsLeftBehind m opening (known_since known before) later)) (sym (device_joined device before later))
         (each_moment later (device_behind device before) (known_since known before) first rest)
 
   -- within a round that did not end
-  pub cuts : (old new : V) (known : Durable) → ((t : ℕ) (image : List ℕ) → t ≤ clock new → MayLeave (disk new) image → left_since new t image) → IsHeld m opening (disk old) known
-      → ((r : Reading) → AllReadAs m (disk old) r → IsStopped clock left_since old new m opening known r) → IsCut disk clock left_since m opening old new known
+  pub cuts : (old new : V) (known : Durable) → ((t : ℕ) (image : List ℕ) → t ≤ g.clock new → MayLeave (g.disk new) image → g.left_since new t image) → IsHeld m opening (g.disk old) known
+      → ((r : Reading) → AllReadAs m (g.disk old) r → IsStopped g old new m opening known r) → IsCut g m opening old new known
   cuts old new known counts held stopped =
       let stop = stopped (held_by m opening known) held.read in
       let lawful = stop.made.lawful held.lawful in
-      let moments = weaken clock left_since old new _ (MayBeLeft (desk_in m opening (with_flying known stop.inputs stop.base)))
+      let moments = weaken g.clock g.left_since old new _ (MayBeLeft (desk_in m opening (with_flying known stop.inputs stop.base)))
       (fly_left m opening stop.base stop.inputs known held.based stop.made lawful) stop.any_moment in
       record {
         inputs = stop.inputs;
         base = stop.base;
         any_moment = moments;
         lawful = lawful;
-        holds = λ past is image may. ((now clock left_since old new (disk new) _ moments counts image may).left past is).reads;
+        holds = λ past is image may. ((now g.clock g.left_since old new (g.disk new) _ moments counts image may).left past is).reads;
       }

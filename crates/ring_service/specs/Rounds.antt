@@ -1,7 +1,8 @@
 -- What a round of a flusher does.
-use Rattle.std.specs.Prelude.{ℕ, ◌≡◌, ◌+◌, ◌-◌, ◌<◌, ◌≤◌, ◌⊎◌, Bool, true, List, ◌++◌, length, Option, Some, None, is_some}
+use Rattle.std.specs.Prelude.{ℕ, ◌≡◌, ◌+◌, ◌-◌, ◌≤◌, ◌⊎◌, List, ◌++◌, length, Option, Some, None, is_some}
 use Rattle.std.specs.Option.{option_map}
-use Rattle.disk_model.specs.Disk.{Disk, LeavesOnly}
+use Rattle.disk_model.specs.declared.device.Device.{Ghosts}
+use Rattle.disk_model.specs.Disk.{LeavesOnly}
 use Rattle.ring_records.specs.declared.input.Input.{Input}
 use Rattle.ring_records.specs.declared.limits.TheConstants.{BATCH_INPUTS}
 use Rattle.ring_records.specs.declared.refusal.Refusal.{Refusal}
@@ -44,7 +45,7 @@ pub record IsMade (member : Member) (opening : Summary) (known : Durable) (input
 -- A round made these inputs of the node durable, at least one in a batch: the journal has them behind those that it read
 -- as, or in a summary of all in the next epoch, and they are known to be durable behind those that were before. It tells
 -- which of the two, and what they let the node release. A stop at any moment of it leaves what was read before, or what is read behind it.
-pub record IsRound {V : Type 0} (disk : V → Disk) (clock : V → ℕ) (left_since : V → ℕ → List ℕ → Type 0) (member : Member) (opening : Summary)
+pub record IsRound {V : Type 0} (g : Ghosts V) (member : Member) (opening : Summary)
     (before behind : V) (old new : Durable) (landed : Landed) : Type 0 where
   pub inputs : List Input
   pub base : Option Summary
@@ -53,16 +54,16 @@ pub record IsRound {V : Type 0} (disk : V → Disk) (clock : V → ℕ) (left_si
   pub count : landed.count ≡ length inputs
   pub kind : landed.is_checkpoint ≡ is_some base
   pub next : new ≡ known_behind base inputs old
-  pub durable : (r : Reading) → AllReadAs member (disk before) r → AllReadAs member (disk behind) (reading_after old.base.epoch base inputs r)
-  pub within : (r : Reading) → AllReadAs member (disk before) r → LeavesOnly clock left_since before behind (ReadsAsOneOf member r (reading_after old.base.epoch base inputs r))
+  pub durable : (r : Reading) → AllReadAs member (g.disk before) r → AllReadAs member (g.disk behind) (reading_after old.base.epoch base inputs r)
+  pub within : (r : Reading) → AllReadAs member (g.disk before) r → LeavesOnly g.clock g.left_since before behind (ReadsAsOneOf member r (reading_after old.base.epoch base inputs r))
   pub brought : IsBrought member opening old.inputs inputs landed
 
 -- A stop at any moment of a round leaves what the journal read as, or what it reads as with what the round makes durable.
-pub record IsStopped {V : Type 0} (clock : V → ℕ) (left_since : V → ℕ → List ℕ → Type 0) (old new : V) (member : Member) (opening : Summary) (known : Durable) (r : Reading) : Type 0 where
+pub record IsStopped {V : Type 0} (g : Ghosts V) (old new : V) (member : Member) (opening : Summary) (known : Durable) (r : Reading) : Type 0 where
   pub inputs : List Input
   pub base : Option Summary
   pub made : IsMade member opening known inputs base
-  pub any_moment : LeavesOnly clock left_since old new (ReadsAsOneOf member r (reading_after known.base.epoch base inputs r))
+  pub any_moment : LeavesOnly g.clock g.left_since old new (ReadsAsOneOf member r (reading_after known.base.epoch base inputs r))
 
 -- ---- what a journal has
 

@@ -2,6 +2,7 @@
 use Rattle.std.specs.Prelude.{ℕ, ◌≡◌, ◌≤◌, Bool, List, [], ◌∷◌, ◌++◌, length, take, drop, Option, Some}
 use Rattle.std.specs.List.{Contains}
 use mathlib.Core.List.{IsPrefix}
+use Rattle.disk_model.specs.declared.device.Device.{Ghosts}
 use Rattle.disk_model.specs.Disk.{Disk, LeavesOnly}
 use Rattle.ring_records.specs.declared.decision.Decision.{Decision}
 use Rattle.ring_records.specs.declared.input.Input.{Input}
@@ -49,16 +50,16 @@ inputs_of [] = []
 inputs_of (round ∷ rounds) = round.inputs ++ inputs_of rounds
 
 -- what a flusher that has this device, and knows this to be durable, tells of a round is that it was this one
-pub record IsRoundOf {V : Type 0} (disk : V → Disk) (clock : V → ℕ) (left_since : V → ℕ → List ℕ → Type 0) (member : Member) (opening : Summary)
+pub record IsRoundOf {V : Type 0} (g : Ghosts V) (member : Member) (opening : Summary)
     (device : V) (known : Durable) (round : Round V) : Type 0 where
-  pub is : IsRound disk clock left_since member opening device round.device known (known_behind round.base round.inputs known) round.landed
+  pub is : IsRound g member opening device round.device known (known_behind round.base round.inputs known) round.landed
   pub inputs : is.inputs ≡ round.inputs
   pub base : is.base ≡ round.base
 
 -- each of these is a round of the flusher behind those before it, which had this device at first, and knew this
-abbrev pub AreRounds : {V : Type 0} → (V → Disk) → (V → ℕ) → (V → ℕ → List ℕ → Type 0) → Member → Summary → V → Durable → List (Round V) → Type 0
-AreRounds disk clock left_since member opening device known rounds =
-    EachAfter (λ before round. IsRoundOf disk clock left_since member opening (device_behind device before) (known_since known before) round) [] rounds
+abbrev pub AreRounds : {V : Type 0} → Ghosts V → Member → Summary → V → Durable → List (Round V) → Type 0
+AreRounds g member opening device known rounds =
+    EachAfter (λ before round. IsRoundOf g member opening (device_behind device before) (known_since known before) round) [] rounds
 
 -- ---- what the journal holds
 
@@ -99,13 +100,13 @@ pub record IsLeftBehind {V : Type 0} (member : Member) (opening : Summary) (know
 
 -- At any moment from the old device to the new one a stop leaves of the node what is known to be durable, or also these
 -- inputs, which fly; and so it does now.
-pub record IsCut {V : Type 0} (disk : V → Disk) (clock : V → ℕ) (left_since : V → ℕ → List ℕ → Type 0) (member : Member) (opening : Summary)
+pub record IsCut {V : Type 0} (g : Ghosts V) (member : Member) (opening : Summary)
     (old new : V) (known : Durable) : Type 0 where
   pub inputs : List Input
   pub base : Option Summary
-  pub any_moment : LeavesOnly clock left_since old new (MayBeLeft (desk_in member opening (with_flying known inputs base)))
+  pub any_moment : LeavesOnly g.clock g.left_since old new (MayBeLeft (desk_in member opening (with_flying known inputs base)))
   pub lawful : IsLawfulBehind member opening (with_flying known inputs base)
-  pub holds : (past : List Input) → IsPast member opening past → Holds member (disk new) (shifted past (with_flying known inputs base))
+  pub holds : (past : List Input) → IsPast member opening past → Holds member (g.disk new) (shifted past (with_flying known inputs base))
 
 -- ---- what was released
 

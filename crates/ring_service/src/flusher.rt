@@ -90,7 +90,7 @@ impl<V: Device, J: Naming, A: NodeLedger> Flusher<V, J, A> {
         hub: &Hub<A>,
         gate: &mut G,
     ) -> Result<Option<Landed>, Refusal>
-        ensures round { IfOk result (λ some. IfSome some (λ landed. IsRound V.disk V.clock V.left_since A.member A.opening (device_in self.old) (device_in self.new)
+        ensures round { IfOk result (λ some. IfSome some (λ landed. IsRound V.Device A.member A.opening (device_in self.old) (device_in self.new)
             (known_to self.old) (known_to self.new) landed)) }
         ensures told { IfOk result (λ some. IfSome some (λ landed. told_to self.new ≡ told_to self.old ++ landed.notices.items)) }
         ensures published { IsPrefix (published (board_of self.old)) (published (board_of self.new)) }
@@ -117,7 +117,7 @@ impl<V: Device, J: Naming, A: NodeLedger> Flusher<V, J, A> {
 
         // A stop at any moment leaves what the journal read as, or what it reads as behind the round.
         ensures any_moment { has_ended self.old ≡ false → (r : Reading) → AllReadAs A.member (V.disk (device_in self.old)) r
-            → IsStopped V.clock V.left_since (device_in self.old) (device_in self.new) A.member A.opening (known_to self.old) r }
+            → IsStopped V.Device (device_in self.old) (device_in self.new) A.member A.opening (known_to self.old) r }
     {
         if self.has_ended {
             return Err(Refusal::Failed);

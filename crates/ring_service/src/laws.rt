@@ -47,11 +47,11 @@ use disk_model::Device;
 /// and those behind it are all that was left.
 pub fn rounds_of_a_flusher<V: Device, A: NodeLedger>()
     ensures begins { (desk : DeskKept) (device : V) → IsSplit desk (V.disk device) → IsHeld desk.view.member desk.opening (V.disk device) (durable_part desk) }
-    ensures told { (old new : V) (before behind : Durable) (landed : Landed) → IsRound V.disk V.clock V.left_since A.member A.opening old new before behind landed
-        → (round : Round V) × (IsRoundOf V.disk V.clock V.left_since A.member A.opening old before round × ((round.device ≡ new) × (known_behind round.base round.inputs before ≡ behind))) }
-    ensures goes_on { (device : V) (known : Durable) (rounds : List (Round V)) (round : Round V) → AreRounds V.disk V.clock V.left_since A.member A.opening device known rounds
-        → IsRoundOf V.disk V.clock V.left_since A.member A.opening (device_behind device rounds) (known_since known rounds) round
-        → AreRounds V.disk V.clock V.left_since A.member A.opening device known (rounds ++ round ∷ []) }
+    ensures told { (old new : V) (before behind : Durable) (landed : Landed) → IsRound V.Device A.member A.opening old new before behind landed
+        → (round : Round V) × (IsRoundOf V.Device A.member A.opening old before round × ((round.device ≡ new) × (known_behind round.base round.inputs before ≡ behind))) }
+    ensures goes_on { (device : V) (known : Durable) (rounds : List (Round V)) (round : Round V) → AreRounds V.Device A.member A.opening device known rounds
+        → IsRoundOf V.Device A.member A.opening (device_behind device rounds) (known_since known rounds) round
+        → AreRounds V.Device A.member A.opening device known (rounds ++ round ∷ []) }
     ensures device { (device : V) (rounds : List (Round V)) (round : Round V) → device_behind device (rounds ++ round ∷ []) ≡ round.device }
     ensures known { (known : Durable) (rounds : List (Round V)) (round : Round V) → known_since known (rounds ++ round ∷ []) ≡ known_behind round.base round.inputs (known_since known rounds) }
     ensures inputs { (known : Durable) (rounds : List (Round V)) → (known_since known rounds).inputs ≡ known.inputs ++ inputs_of rounds }
@@ -66,26 +66,26 @@ pub fn rounds_of_a_flusher<V: Device, A: NodeLedger>()
 /// rounds.
 pub fn left_by_a_flusher<V: Device, A: NodeLedger>()
     ensures held { (device : V) (known : Durable) (rounds : List (Round V)) → IsHeld A.member A.opening (V.disk device) known
-        → AreRounds V.disk V.clock V.left_since A.member A.opening device known rounds → IsHeld A.member A.opening (V.disk (device_behind device rounds)) (known_since known rounds) }
+        → AreRounds V.Device A.member A.opening device known rounds → IsHeld A.member A.opening (V.disk (device_behind device rounds)) (known_since known rounds) }
     ensures recovery { (device : V) (known : Durable) → IsHeld A.member A.opening (V.disk device) known → (past : List Input) → IsPast A.member A.opening past
         → IsLawfulState A.member (shifted past (at_rest known)) × Holds A.member (V.disk device) (shifted past (at_rest known)) }
     ensures any_moment { (device : V) (known : Durable) (before later : List (Round V)) → IsHeld A.member A.opening (V.disk device) known
-        → AreRounds V.disk V.clock V.left_since A.member A.opening device known (before ++ later)
+        → AreRounds V.Device A.member A.opening device known (before ++ later)
         → LeavesOnly V.clock V.left_since (device_behind device before) (device_behind device (before ++ later)) (IsLeftBehind A.member A.opening (known_since known before) later) }
     ensures cut { (old new : V) (known : Durable) → IsHeld A.member A.opening (V.disk old) known
-        → ((r : Reading) → AllReadAs A.member (V.disk old) r → IsStopped V.clock V.left_since old new A.member A.opening known r)
-        → IsCut V.disk V.clock V.left_since A.member A.opening old new known }
+        → ((r : Reading) → AllReadAs A.member (V.disk old) r → IsStopped V.Device old new A.member A.opening known r)
+        → IsCut V.Device A.member A.opening old new known }
 {}
 
 /// What a round let its node release, packets and leaders, rests on inputs that the next start holds, whenever a stop comes
 /// behind the round: between rounds, within one, or within one that did not end.
 pub fn released_by_a_flusher<V: Device, A: NodeLedger>()
     ensures rounds { (device : V) (known : Durable) (before later : List (Round V)) (round : Round V) → IsHeld A.member A.opening (V.disk device) known
-        → AreRounds V.disk V.clock V.left_since A.member A.opening device known (before ++ round ∷ later)
+        → AreRounds V.Device A.member A.opening device known (before ++ round ∷ later)
         → LeavesOnly V.clock V.left_since round.device (device_behind device (before ++ round ∷ later)) (RestsOn A.member A.opening (known_since known before) round) }
     ensures cut { (device : V) (known : Durable) (before later : List (Round V)) (round : Round V) (new : V)
-        → AreRounds V.disk V.clock V.left_since A.member A.opening device known (before ++ round ∷ later)
-        → IsCut V.disk V.clock V.left_since A.member A.opening (device_behind device (before ++ round ∷ later)) new (known_since known (before ++ round ∷ later))
+        → AreRounds V.Device A.member A.opening device known (before ++ round ∷ later)
+        → IsCut V.Device A.member A.opening (device_behind device (before ++ round ∷ later)) new (known_since known (before ++ round ∷ later))
         → LeavesOnly V.clock V.left_since (device_behind device (before ++ round ∷ later)) new (RestsOn A.member A.opening (known_since known before) round) }
 {}
 
@@ -96,10 +96,10 @@ pub fn released_by_a_flusher<V: Device, A: NodeLedger>()
 /// a window rests on that.
 pub fn told_by_a_flusher<V: Device, A: NodeLedger>()
     ensures rounds { (device : V) (known : Durable) (before later : List (Round V)) (begun : List Input) → IsHeld A.member A.opening (V.disk device) known
-        → AreRounds V.disk V.clock V.left_since A.member A.opening device known (before ++ later) → IsPrefix begun (known_since known before).inputs
+        → AreRounds V.Device A.member A.opening device known (before ++ later) → IsPrefix begun (known_since known before).inputs
         → LeavesOnly V.clock V.left_since (device_behind device before) (device_behind device (before ++ later)) (Begins A.member A.opening begun) }
     ensures cut { (old new : V) (known : Durable) (begun : List Input) → IsPrefix begun known.inputs
-        → IsCut V.disk V.clock V.left_since A.member A.opening old new known → LeavesOnly V.clock V.left_since old new (Begins A.member A.opening begun) }
+        → IsCut V.Device A.member A.opening old new known → LeavesOnly V.clock V.left_since old new (Begins A.member A.opening begun) }
     ensures sooner { (known : Durable) (before later : List (Round V)) (begun : List Input) → IsPrefix begun (known_since known (before ++ later)).inputs
         → length begun ≤ length (known_since known before).inputs → IsPrefix begun (known_since known before).inputs }
     ensures reply { (past begun : List Input) (image : List ℕ) (keep : Bool) (given : Answered) (left : BeginsBehind A.member past begun image) (answer : IsAnswer A.member past begun given)
@@ -131,7 +131,7 @@ pub fn told_to_a_board<V: Device>()
     ensures opens { (desk : DeskKept) (past : List Input) (list : List Notice) → IsContent desk.view.member.node (durable_in (seen past desk).state) list
         → IsTold (record { member = desk.view.member; opening = desk.opening; past = past; known = durable_part desk }) list }
     ensures goes_on { (life : Life) (told : List Notice) (old new : V) (behind : Durable) (landed : Landed) → IsPast life.member life.opening life.past → IsTold life told
-        → IsRound V.disk V.clock V.left_since life.member life.opening old new life.known behind landed → IsTold (record life { known = behind }) (told ++ landed.notices.items) }
+        → IsRound V.Device life.member life.opening old new life.known behind landed → IsTold (record life { known = behind }) (told ++ landed.notices.items) }
     ensures says { (life : Life) (told seen : List Notice) (key : Key) (c : Candidate) → IsTold life told → IsPrefix seen told → leader_in seen key ≡ Some c
         → first_leader life.member.node (history_of life) key ≡ Some c }
 {}

@@ -1,6 +1,7 @@
-use Rattle.std.proofs.Common.{inr, sym}
+use Rattle.std.proofs.Common.{sym}
 use Rattle.gated_journal.specs.Feeding.{IsContentless}
 use Rattle.gated_journal.proofs.AreaPieces.{area_at, area_damaged}
+use Rattle.gated_journal.proofs.OnlyReads.{then}
 use Rattle.gated_journal.proofs.Results.{not_both}
 use Rattle.gated_journal.proofs.contents.read_contents.Goals as goal
 
@@ -14,8 +15,7 @@ damaged g c =
     let e = c.in-Err-finish in
     area_damaged c.args.layout c.args.n c.args.start (g.D.Device.disk c.args.device.now).image c.in-Ok.reader c.in-Ok.ensures.fed e.refusal (λ done. not_both (sym (e.ensures.done done))) e.ensures.broken
 
-pub returns-in-Err-finish-clause-refusal : goal.returns-in-Err-finish-clause-refusal
-returns-in-Err-finish-clause-refusal g c = inr (damaged g c)
-
-pub returns-in-Err-finish-clause-works : goal.returns-in-Err-finish-clause-works
-returns-in-Err-finish-clause-works g c = λ reach. damaged g c
+pub returns-in-Err-finish-clause-device : goal.returns-in-Err-finish-clause-device
+returns-in-Err-finish-clause-device g c =
+    let D = g.D.Device in
+    then D _ c.args.device.now c.feed_all.new.device c.feed_all.result _ _ _ _ c.in-Ok.is (damaged g c) c.feed_all.ensures.device

@@ -1,26 +1,23 @@
-use Rattle.std.proofs.Common.{inl, inr, ⊎_elim, arith}
+use Rattle.std.proofs.Common.{inr, arith}
 use Rattle.gated_journal.proofs.AreaFound.{area_base, area_frames, contentless, goes_past}
+use Rattle.gated_journal.proofs.OnlyReads.{refused, then}
 use Rattle.gated_journal.proofs.contents.read_in_area.Goals as goal
 
 pub read_contents-requires : goal.read_contents-requires
 read_contents-requires g c = omega (arith, c.requires.used.offset, c.requires.used.there)
 
-pub returns-in-Err-clause-refusal : goal.returns-in-Err-clause-refusal
-returns-in-Err-clause-refusal g c =
-    ⊎_elim (λ fault. inl fault) (λ none. inr (contentless c.args.n c.args.capacity (g.D.Device.disk c.args.device.now).image c.args.chosen.now c.requires.used c.in-Err.refusal none)) c.in-Err.ensures.refusal
+pub returns-in-Err-clause-device : goal.returns-in-Err-clause-device
+returns-in-Err-clause-device g c =
+    let D = g.D.Device in
+    refused D _ c.args.device.now c.read_contents.new.device c.read_contents.result c.in-Err.refusal _ _ c.in-Err.is
+    (λ none. contentless c.args.n c.args.capacity (D.disk c.args.device.now).image c.args.chosen.now c.requires.used c.in-Err.refusal none) c.read_contents.ensures.device
 
-pub returns-in-Err-clause-works : goal.returns-in-Err-clause-works
-returns-in-Err-clause-works g c = λ reach. contentless c.args.n c.args.capacity (g.D.Device.disk c.args.device.now).image c.args.chosen.now c.requires.used c.in-Err.refusal (c.in-Err.ensures.works reach)
-
-pub returns-then-bound-gate_at-clause-refusal : goal.returns-then-bound-gate_at-clause-refusal
-returns-then-bound-gate_at-clause-refusal g c =
+pub returns-then-bound-gate_at-clause-device : goal.returns-then-bound-gate_at-clause-device
+returns-then-bound-gate_at-clause-device g c =
+    let D = g.D.Device in
     let f = c.in-Ok.contents in
-    inr (inr (goes_past c.args.n c.args.capacity (g.D.Device.disk c.args.device.now).image c.args.chosen.now c.requires.used f.base f.inputs.items f.gate_at c.in-Ok.ensures.area (omega (arith, c.if-bound-gate_at.true, c.from.ensures))))
-
-pub returns-then-bound-gate_at-clause-works : goal.returns-then-bound-gate_at-clause-works
-returns-then-bound-gate_at-clause-works g c = λ reach.
-    let f = c.in-Ok.contents in
-    inr (goes_past c.args.n c.args.capacity (g.D.Device.disk c.args.device.now).image c.args.chosen.now c.requires.used f.base f.inputs.items f.gate_at c.in-Ok.ensures.area (omega (arith, c.if-bound-gate_at.true, c.from.ensures)))
+    then D _ c.args.device.now c.read_contents.new.device c.read_contents.result _ _ _ _ c.in-Ok.is
+    (inr (goes_past c.args.n c.args.capacity (D.disk c.args.device.now).image c.args.chosen.now c.requires.used f.base f.inputs.items f.gate_at c.in-Ok.ensures.area (omega (arith, c.if-bound-gate_at.true, c.from.ensures)))) c.read_contents.ensures.device
 
 pub returns-else-bound-gate_at-clause-base : goal.returns-else-bound-gate_at-clause-base
 returns-else-bound-gate_at-clause-base g c =

@@ -1,6 +1,6 @@
 use Rattle.std.proofs.Common.{◌≡◌, ◌-◌, ◌≤◌, Ok}
-use Rattle.disk_model.specs.Disk.{MayLeave, LeavesOnly}
 use Rattle.gated_journal.specs.Feeding.{fed_to}
+use Rattle.gated_journal.specs.OnlyReads.{OnlyReads, NoCause}
 use Rattle.gated_journal.specs.declared.area_reader.Fed.TheVariants.{More}
 use Rattle.gated_journal.proofs.feeding.feed_all.Given as goal
 
@@ -9,10 +9,7 @@ invariant-loop-at g l = record {
   from : l.start ≤ l.at;
   to : l.at ≤ l.size;
   reader : l.reader ≡ fed_to l.layout l.n l.start (g.D.Device.disk l.fn.device).image l.at (Ok More);
-  disk : g.D.Device.disk l.device ≡ g.D.Device.disk l.fn.device;
-  moments : LeavesOnly g.D.Device.clock g.D.Device.left_since l.fn.device l.device (MayLeave (g.D.Device.disk l.fn.device));
-  count : g.D.Device.count l.device ≡ g.D.Device.count l.fn.device;
-  reach : g.D.Device.reach l.device ≡ g.D.Device.reach l.fn.device;
+  device : OnlyReads g.D.Device l.fn.device l.device (Ok l.at) NoCause;
 }
 
 abbrev pub decreases-loop-at : goal.decreases-loop-at

@@ -1,14 +1,15 @@
-use Rattle.std.proofs.Common.{rules, ◌≡◌, ◌+◌, ◌-◌, ◌≤◌, inr, ℕ, List, length, take, drop, refl, sym, ◌∙◌, ap, subst, arith, length-take, length-drop}
+use Rattle.std.proofs.Common.{rules, ◌≡◌, ◌+◌, ◌-◌, ◌≤◌, inr, ℕ, List, length, take, drop, Ok, refl, sym, ◌∙◌, ap, subst, arith, length-take, length-drop}
 use Rattle.std.proofs.lemmas.List.{take_all}
-use Rattle.disk_model.specs.Disk.{Disk, MayLeave, LeavesOnly}
-use Rattle.disk_model.proofs.Moments.{joins}
+use Rattle.disk_model.specs.Disk.{Disk}
 use Rattle.ring_records.specs.declared.refusal.Refusal.TheVariants as refused
 use Rattle.gated_journal.specs.Damage.{IsBroken}
 use Rattle.gated_journal.specs.Found.{IsClosed, IsWaiting}
 use Rattle.gated_journal.specs.Listed.{IsListed, IsStuck}
+use Rattle.gated_journal.specs.OnlyReads.{NoCause}
 use Rattle.gated_journal.specs.Pieces.{IsNextFront}
 use Rattle.gated_journal.specs.declared.found.Stage.{Stage}
 use Rattle.gated_journal.proofs.FramesAlone.{listed_at, list_read, list_stuck, list_ends}
+use Rattle.gated_journal.proofs.OnlyReads.{goes_on, then}
 use Rattle.gated_journal.proofs.listed.read_list.Goals as goal
 
 pub returns-in-Done-clause-reads : goal.returns-in-Done-clause-reads
@@ -18,7 +19,7 @@ returns-in-Done-clause-reads g c =
     let at = c.loop-at.at in
     let size = c.in-Ok.next.1 in
     let image = (g.D.Device.disk c.args.device.now).image in
-    let same = ap (λ (d : Disk). d.image) inv.disk in
+    let same = ap (λ (d : Disk). d.image) inv.device.kept in
     let new = c.list_next.new.inputs.items in
     let rest = c.list_next.new.rest.items in
     let there = c.min-there.result in
@@ -37,7 +38,7 @@ broken g c =
     let at = c.loop-at.at in
     let size = c.in-Ok.next.1 in
     let image = (g.D.Device.disk c.args.device.now).image in
-    let same = ap (λ (d : Disk). d.image) inv.disk in
+    let same = ap (λ (d : Disk). d.image) inv.device.kept in
     let new = c.list_next.new.inputs.items in
     let rest = c.list_next.new.rest.items in
     let there = c.min-there.result in
@@ -52,11 +53,11 @@ broken g c =
           (subst (IsStuck 1) (c.in-Ok.ensures.rest ∙ ap (λ (l : List ℕ). take n (drop (at + size) l)) same) bad.1);
     }
 
-pub returns-in-Damaged-clause-refusal : goal.returns-in-Damaged-clause-refusal
-returns-in-Damaged-clause-refusal g c = inr (inr (broken g c))
-
-pub returns-in-Damaged-clause-works : goal.returns-in-Damaged-clause-works
-returns-in-Damaged-clause-works g c = λ reach. inr (broken g c)
+pub returns-in-Damaged-clause-device : goal.returns-in-Damaged-clause-device
+returns-in-Damaged-clause-device g c =
+    let D = g.D.Device in
+    let read = goes_on D c.args.device.now c.loop-at.device c.list_next.new.device c.loop-at.at c.list_next.result _ c.loop-at.at _ _ NoCause c.in-Ok.is c.loop-at.invariant.device c.list_next.ensures.device in
+    then D _ c.args.device.now c.list_next.new.device (Ok c.loop-at.at) c.loop-at.at _ NoCause _ refl (inr (broken g c)) read
 
 pub loop-at-preserved-in-Head : goal.loop-at-preserved-in-Head
 loop-at-preserved-in-Head g c =
@@ -65,7 +66,7 @@ loop-at-preserved-in-Head g c =
     let at = c.loop-at.at in
     let size = c.in-Ok.next.1 in
     let image = (g.D.Device.disk c.args.device.now).image in
-    let same = ap (λ (d : Disk). d.image) inv.disk in
+    let same = ap (λ (d : Disk). d.image) inv.device.kept in
     let new = c.list_next.new.inputs.items in
     let rest = c.list_next.new.rest.items in
     let there = c.min-there.result in
@@ -81,7 +82,7 @@ loop-at-preserved-in-Snapshot g c =
     let at = c.loop-at.at in
     let size = c.in-Ok.next.1 in
     let image = (g.D.Device.disk c.args.device.now).image in
-    let same = ap (λ (d : Disk). d.image) inv.disk in
+    let same = ap (λ (d : Disk). d.image) inv.device.kept in
     let new = c.list_next.new.inputs.items in
     let rest = c.list_next.new.rest.items in
     let there = c.min-there.result in
@@ -97,7 +98,7 @@ loop-at-preserved g c =
     let at = c.loop-at.at in
     let size = c.in-Ok.next.1 in
     let image = (g.D.Device.disk c.args.device.now).image in
-    let same = ap (λ (d : Disk). d.image) inv.disk in
+    let same = ap (λ (d : Disk). d.image) inv.device.kept in
     let new = c.list_next.new.inputs.items in
     let rest = c.list_next.new.rest.items in
     let there = c.min-there.result in
@@ -108,18 +109,13 @@ loop-at-preserved g c =
     let rest_is : rest ≡ take n (drop (at + size) image) = c.in-Ok.ensures.rest ∙ ap (λ (l : List ℕ). take n (drop (at + size) l)) same in
     let to : at + size + n ≤ length image = omega (arith, c.in-Ok.ensures.size, long, c.min-there.ensures, c.loop-at-test.true, c.len.ensures, c.len-in-loop-at.ensures, c.size-size.ensures, inv.to) in
     let rest_long : length rest ≡ n = omega (arith, ap (λ (l : List ℕ). length l) rest_is, length-take n (drop (at + size) image), length-drop (at + size) image, to) in
-    let time : LeavesOnly D.clock D.left_since c.loop-at.device c.list_next.new.device (MayLeave (D.disk c.args.device.now)) =
-    subst (λ (d : Disk). LeavesOnly D.clock D.left_since c.loop-at.device c.list_next.new.device (MayLeave d)) inv.disk c.list_next.ensures.any_moment in
     record {
       from = omega (arith, inv.from);
       to = omega (arith, to, rest_long, c.size-size.ensures);
       rest = rest_is ∙ ap (λ (k : ℕ). take k (drop (at + size) image)) (sym rest_long);
       lists = subst (λ (s : Stage). IsListed 1 s (take (at + size - start) (drop start image)) new rest) c.in-Frames.is listed;
       front = subst (λ (s : Stage). IsWaiting s rest) c.in-Frames.is c.in-Ok.ensures.waits;
-      disk = c.list_next.ensures.disk ∙ inv.disk;
-      moments = joins D.clock D.left_since c.args.device.now c.loop-at.device c.list_next.new.device _ inv.moments time;
-      count = c.in-Ok.ensures.same ∙ inv.count;
-      reach = c.list_next.ensures.reach ∙ inv.reach;
+      device = goes_on D c.args.device.now c.loop-at.device c.list_next.new.device at c.list_next.result _ _ _ _ _ c.in-Ok.is inv.device c.list_next.ensures.device;
     }
 
 -- the image ends before a closed gate
@@ -133,8 +129,7 @@ ended g c =
     let all : kept ≡ drop at image = inv.rest ∙ take_all (length kept) (drop at image) (omega (arith, end, length-drop at image)) in
     record { gate_at = at; is = refl; damaged = list_ends 1 c.args.start at image inv.from (omega (arith, end)) c.loop-at.inputs.items inv.lists (subst IsNextFront all inv.front) }
 
-pub returns-clause-refusal : goal.returns-clause-refusal
-returns-clause-refusal g c = inr (inr (ended g c))
-
-pub returns-clause-works : goal.returns-clause-works
-returns-clause-works g c = λ reach. inr (ended g c)
+pub returns-clause-device : goal.returns-clause-device
+returns-clause-device g c =
+    let D = g.D.Device in
+    then D _ c.args.device.now c.loop-at.device (Ok c.loop-at.at) c.loop-at.at _ NoCause _ refl (inr (ended g c)) c.loop-at.invariant.device

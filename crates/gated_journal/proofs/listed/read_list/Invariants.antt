@@ -1,6 +1,6 @@
-use Rattle.std.proofs.Common.{◌≡◌, ◌+◌, ◌-◌, ◌≤◌, length, take, drop}
-use Rattle.disk_model.specs.Disk.{MayLeave, LeavesOnly}
+use Rattle.std.proofs.Common.{◌≡◌, ◌+◌, ◌-◌, ◌≤◌, length, take, drop, Ok}
 use Rattle.gated_journal.specs.Listed.{Lists}
+use Rattle.gated_journal.specs.OnlyReads.{OnlyReads, NoCause}
 use Rattle.gated_journal.specs.Pieces.{IsNextFront}
 use Rattle.gated_journal.proofs.listed.read_list.Given as goal
 
@@ -11,10 +11,7 @@ invariant-loop-at g l = record {
   rest : l.rest.items ≡ take (length l.rest.items) (drop l.at (g.D.Device.disk l.fn.device).image);
   lists : Lists 1 (take (l.at - l.start) (drop l.start (g.D.Device.disk l.fn.device).image)) l.inputs.items;
   front : IsNextFront l.rest.items;
-  disk : g.D.Device.disk l.device ≡ g.D.Device.disk l.fn.device;
-  moments : LeavesOnly g.D.Device.clock g.D.Device.left_since l.fn.device l.device (MayLeave (g.D.Device.disk l.fn.device));
-  count : g.D.Device.count l.device ≡ g.D.Device.count l.fn.device;
-  reach : g.D.Device.reach l.device ≡ g.D.Device.reach l.fn.device;
+  device : OnlyReads g.D.Device l.fn.device l.device (Ok l.at) NoCause;
 }
 
 abbrev pub decreases-loop-at : goal.decreases-loop-at

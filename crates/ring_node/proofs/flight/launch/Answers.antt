@@ -3,7 +3,7 @@ use Rattle.std.proofs.lemmas.Result.{IfErr-weaker}
 use Rattle.ring_node.specs.declared.flight.Flight.{Flight}
 use Rattle.ring_node.specs.Held.{MayFly}
 use Rattle.ring_node.proofs.Flights.{both_err, short_alone, fault_alone}
-use Rattle.ring_node.proofs.Serving.{no_fault}
+use Rattle.node_store.proofs.Flight.{no_fault}
 use Rattle.ring_node.proofs.flight.launch.Goals as goal
 
 -- the area in use is of the newest layout, which holds each input
@@ -19,9 +19,9 @@ returns-in-Batch c =
       next = called.next;
       count = called.count;
       packets = called.packets;
-      failed = both_err c.flush_batch.result _ _ _ (λ why cause fault not_short. ⊎_elim fault (λ short. absurd (not_short short)) (cause works.0)) called.cause called.fault;
-      same = IfErr-weaker c.flush_batch.result _ _ (λ why same short. same (inr short)) called.same;
-      in_reach = λ reaches. both_err c.flush_batch.result _ _ _ (λ why cause within. ⊎_elim (λ failed. no_fault (cause works.0) failed) (λ short. short) within) called.cause (called.in_reach reaches);
+      failed = both_err c.flush_batch.result _ _ _ (λ why cause fault not_short. ⊎_elim fault (λ short. absurd (not_short short)) (cause.1 works.0)) called.cause called.fault;
+      same = IfErr-weaker c.flush_batch.result _ _ (λ why same short. same (inr (inr (inr short)))) called.same;
+      in_reach = λ reaches. both_err c.flush_batch.result _ _ _ (λ why cause within. ⊎_elim (λ fault. absurd (no_fault _ _ _ within fault)) (λ short. short) (cause.1 works.0)) called.cause (called.in_reach reaches);
       stays = called.stays;
       reach = called.reach;
     })

@@ -6,10 +6,10 @@ pub returns-clause-begins : goal.returns-clause-begins
 returns-clause-begins g c = λ desk device is. splits desk (g.V.Device.disk device) is
 
 pub returns-clause-told : goal.returns-clause-told
-returns-clause-told g c = told g.V.Device.disk g.V.Device.clock g.V.Device.left_since g.A.NodeLedger.member g.A.NodeLedger.opening
+returns-clause-told g c = told g.V.Device g.A.NodeLedger.member g.A.NodeLedger.opening
 
 pub returns-clause-goes_on : goal.returns-clause-goes_on
-returns-clause-goes_on g c = goes_on g.V.Device.disk g.V.Device.clock g.V.Device.left_since g.A.NodeLedger.member g.A.NodeLedger.opening
+returns-clause-goes_on g c = goes_on g.V.Device g.A.NodeLedger.member g.A.NodeLedger.opening
 
 pub returns-clause-device : goal.returns-clause-device
 returns-clause-device g c = λ device rounds round. device_joined device rounds (round ∷ [])

@@ -8,10 +8,10 @@ use Rattle.ring_service.proofs.Begun.{answers_stay, begins_behind, begins_cut, k
 use Rattle.ring_service.proofs.laws.told_by_a_flusher.Goals as goal
 
 pub returns-clause-rounds : goal.returns-clause-rounds
-returns-clause-rounds g c = begins_behind g.V.Device.disk g.V.Device.clock g.V.Device.left_since g.A.NodeLedger.member g.A.NodeLedger.opening g.met.V.Device.only_now
+returns-clause-rounds g c = begins_behind g.V.Device g.A.NodeLedger.member g.A.NodeLedger.opening g.met.V.Device.only_now
 
 pub returns-clause-cut : goal.returns-clause-cut
-returns-clause-cut g c = begins_cut g.V.Device.disk g.V.Device.clock g.V.Device.left_since g.A.NodeLedger.member g.A.NodeLedger.opening
+returns-clause-cut g c = begins_cut g.V.Device g.A.NodeLedger.member g.A.NodeLedger.opening
 
 pub returns-clause-sooner : goal.returns-clause-sooner
 returns-clause-sooner g c = known_sooner

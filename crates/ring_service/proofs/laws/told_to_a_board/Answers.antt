@@ -5,7 +5,7 @@ pub returns-clause-opens : goal.returns-clause-opens
 returns-clause-opens g c = told_at_first
 
 pub returns-clause-goes_on : goal.returns-clause-goes_on
-returns-clause-goes_on g c = told_since g.V.Device.disk g.V.Device.clock g.V.Device.left_since
+returns-clause-goes_on g c = told_since g.V.Device
 
 pub returns-clause-says : goal.returns-clause-says
 returns-clause-says g c = first_seen

@@ -13,4 +13,4 @@ returns-in-Ok-clause-next g c =
 pub returns-in-Err-clause-inputs : goal.returns-in-Err-clause-inputs
 returns-in-Err-clause-inputs g c =
     let told = c.in-Err.ensures in
-    ⊎_elim (λ broken. ap (λ (d : DeskKept). d.view.state.inputs) (told.fault broken) ∙ inputs_stay c.args.node.now.desk) (λ short. ap (λ (d : DeskKept). d.view.state.inputs) (told.same (inr short)).0) (told.cause c.requires.works)
+    ⊎_elim (λ broken. ap (λ (d : DeskKept). d.view.state.inputs) (told.fault broken) ∙ inputs_stay c.args.node.now.desk) (λ short. ap (λ (d : DeskKept). d.view.state.inputs) (told.same (inr (inr (inr short)))).0) (told.cause.1 c.requires.works)

@@ -1,4 +1,4 @@
-use Rattle.std.proofs.Common.{◌≡◌, ◌+◌, [], true, length, append-nil, sym, ap, ◌∙◌, subst}
+use Rattle.std.proofs.Common.{rules, ◌≡◌, ◌+◌, [], true, length, append-nil, sym, ap, ◌∙◌, subst}
 use Rattle.ring_records.specs.Lawful.{IsNodeState}
 use Rattle.group_commit.specs.Desk.{DeskKept}
 use Rattle.group_commit.specs.Next.{Durable, durable_part}
@@ -32,25 +32,35 @@ pub follow-requires-clause-longer : goal.follow-requires-clause-longer
 follow-requires-clause-longer g c =
     ([], append-nil _ ∙ (ap (λ (v : TieView). v.durable.inputs) c.audit.ensures.held ∙ (ap (λ (d : Durable). d.inputs) c.args.self.now.held_is ∙ sym (ap (λ (d : DeskKept). (durable_part d).inputs) c.in-Ok.ensures.next))))
 
-pub returns-in-Ok-clause-flew : goal.returns-in-Ok-clause-flew
-returns-in-Ok-clause-flew g c =
-    let old = c.args.self.now in
-    ap (λ (v : TieView). v.flying) c.audit.ensures.equal ∙ (old.flies ∙ flies_as old.shared.desk _ c.in-Ok.ensures.flying)
+pub returns-in-Ok-clause-tied : goal.returns-in-Ok-clause-tied
+returns-in-Ok-clause-tied g c = record {
+  flew =
+      let old = c.args.self.now in
+      ap (λ (v : TieView). v.flying) c.audit.ensures.equal ∙ (old.flies ∙ flies_as old.shared.desk _ c.in-Ok.ensures.flying);
+  failed = ap (λ (v : TieView). v.failed) c.follow.ensures.known ∙ ap (λ (d : DeskKept). d.view.failed) c.in-Ok.ensures.next;
+  refusal = tt;
+  cause = tt;
+  back = tt;
+  tie =
+      let old = c.args.self.now in
+      ap (λ (v : TieView). v.durable) c.follow.ensures.known ∙ (ap durable_part c.in-Ok.ensures.next ∙ sym (ap (λ (v : TieView). v.durable) c.audit.ensures.equal ∙ old.held_is));
+  flies =
+      let old = c.args.self.now in
+      ap (λ (v : TieView). v.flying) c.follow.ensures.known ∙ (ap flying_part c.in-Ok.ensures.next ∙ sym (ap (λ (v : TieView). v.flying) c.audit.ensures.equal ∙ old.flies));
+  works = tt;
+}
 
-pub returns-in-Ok-clause-failed : goal.returns-in-Ok-clause-failed
-returns-in-Ok-clause-failed g c = ap (λ (v : TieView). v.failed) c.follow.ensures.known ∙ ap (λ (d : DeskKept). d.view.failed) c.in-Ok.ensures.next
-
-pub returns-in-Ok-clause-tie : goal.returns-in-Ok-clause-tie
-returns-in-Ok-clause-tie g c =
-    let old = c.args.self.now in
-    ap (λ (v : TieView). v.durable) c.follow.ensures.known ∙ (ap durable_part c.in-Ok.ensures.next ∙ sym (ap (λ (v : TieView). v.durable) c.audit.ensures.equal ∙ old.held_is))
-
-pub returns-in-Ok-clause-flies : goal.returns-in-Ok-clause-flies
-returns-in-Ok-clause-flies g c =
-    let old = c.args.self.now in
-    ap (λ (v : TieView). v.flying) c.follow.ensures.known ∙ (ap flying_part c.in-Ok.ensures.next ∙ sym (ap (λ (v : TieView). v.flying) c.audit.ensures.equal ∙ old.flies))
-
-pub returns-in-Err-clause-cause : goal.returns-in-Err-clause-cause
-returns-in-Err-clause-cause g c = λ flies.
-    let old = c.args.self.now in
-    c.in-Err.ensures.foreign.1 (as_flies old.shared.desk _ (sym (ap (λ (v : TieView). v.flying) c.audit.ensures.equal ∙ old.flies) ∙ flies))
+pub returns-in-Err-clause-tied : goal.returns-in-Err-clause-tied
+returns-in-Err-clause-tied g c = record {
+  flew = tt;
+  failed = tt;
+  refusal = search rules;
+  cause =
+      λ flies.
+      let old = c.args.self.now in
+      c.in-Err.ensures.foreign.1 (as_flies old.shared.desk _ (sym (ap (λ (v : TieView). v.flying) c.audit.ensures.equal ∙ old.flies) ∙ flies));
+  back = search rules;
+  tie = search rules;
+  flies = search rules;
+  works = search rules;
+}

@@ -1,4 +1,4 @@
-use Rattle.std.proofs.Common.{◌≡◌, ◌+◌, ◌++◌, length, sym, ap, ◌∙◌}
+use Rattle.std.proofs.Common.{rules, ◌≡◌, ◌+◌, ◌-◌, ◌++◌, arith, drop, length, length-drop, length-take, sym, ap, ◌∙◌}
 use Rattle.ring_records.specs.Release.{packets, notices}
 use Rattle.ring_records.proofs.Lists.{none≢some}
 use Rattle.gated_journal.specs.Batch.{landed as receipted}
@@ -43,15 +43,6 @@ follow-requires-clause-longer g c =
       ap (λ (d : Durable). d.inputs ++ flying_in s) (ap (λ (v : TieView). v.durable) c.audit.ensures.held ∙ old.held_is) ∙ (flown s old.counts ∙ sym (ap (λ (d : DeskKept). (durable_part d).inputs) c.in-Ok.ensures.next)),
     )
 
-pub returns-in-Ok-clause-brought : goal.returns-in-Ok-clause-brought
-returns-in-Ok-clause-brought g c =
-    let old = c.args.self.now in
-    let desk = old.shared.desk in
-    let since = ap (λ (d : Durable). d.inputs) (ap (λ (v : TieView). v.durable) c.audit.ensures.equal ∙ old.held_is) in
-    named (λ m opening. IsBrought m opening (known_by c.args.tie.now).inputs (receipted c.args.receipt).inputs c.in-Ok.landed) desk _ _ old.of old.opening
-    (brings desk c.land.new.self _ _ c.in-Ok.landed old.counts c.in-Ok.ensures.next c.accepted-accepted.ensures.lawful since
-    c.in-Ok.ensures.flying.inputs c.in-Ok.ensures.packets c.in-Ok.ensures.notices)
-
 pub returns-in-Ok-clause-packets : goal.returns-in-Ok-clause-packets
 returns-in-Ok-clause-packets g c =
     let old = c.args.self.now in
@@ -62,37 +53,65 @@ returns-in-Ok-clause-notices g c =
     let old = c.args.self.now in
     released notices c.in-Ok.landed.notices.items old.shared.desk _ _ _ old.of old.opening c.in-Ok.ensures.flying.inputs c.in-Ok.ensures.notices
 
-pub returns-in-Ok-clause-batch : goal.returns-in-Ok-clause-batch
-returns-in-Ok-clause-batch g c =
-    let old = c.args.self.now in
-    let desk = old.shared.desk in
-    λ none.
-    let lands = lands_batch desk c.land.new.self (receipted c.args.receipt).inputs (flew_none desk.view.state _ c.in-Ok.ensures.flying.snapshot none) old.counts c.in-Ok.ensures.next c.in-Ok.ensures.flying.inputs in
-    ap (λ (v : TieView). v.durable) c.follow.ensures.known ∙ (lands ∙ ap (λ (d : Durable). with_batch d (receipted c.args.receipt).inputs) (sym (ap (λ (v : TieView). v.durable) c.audit.ensures.equal ∙ old.held_is)))
+pub returns-in-Ok-clause-tied : goal.returns-in-Ok-clause-tied
+returns-in-Ok-clause-tied g c = record {
+  count =
+      let old = c.args.self.now in
+      let s = old.shared.desk.view.state in
+      omega (arith, c.in-Ok.ensures.count, ap length c.in-Ok.ensures.flying.inputs, old.counts.durable, old.counts.flying, length-take (s.flying - s.durable) (drop s.durable s.inputs), length-drop s.durable s.inputs);
+  kind = search rules;
+  few = search rules;
+  again = search rules;
+  brought =
+      let old = c.args.self.now in
+      let desk = old.shared.desk in
+      let since = ap (λ (d : Durable). d.inputs) (ap (λ (v : TieView). v.durable) c.audit.ensures.equal ∙ old.held_is) in
+      named (λ m opening. IsBrought m opening (known_by c.args.tie.now).inputs (receipted c.args.receipt).inputs c.in-Ok.landed) desk _ _ old.of old.opening
+      (brings desk c.land.new.self _ _ c.in-Ok.landed old.counts c.in-Ok.ensures.next c.accepted-accepted.ensures.lawful since
+      c.in-Ok.ensures.flying.inputs c.in-Ok.ensures.packets c.in-Ok.ensures.notices);
+  batch =
+      let old = c.args.self.now in
+      let desk = old.shared.desk in
+      λ none.
+      let lands = lands_batch desk c.land.new.self (receipted c.args.receipt).inputs (flew_none desk.view.state _ c.in-Ok.ensures.flying.snapshot none) old.counts c.in-Ok.ensures.next c.in-Ok.ensures.flying.inputs in
+      ap (λ (v : TieView). v.durable) c.follow.ensures.known ∙ (lands ∙ ap (λ (d : Durable). with_batch d (receipted c.args.receipt).inputs) (sym (ap (λ (v : TieView). v.durable) c.audit.ensures.equal ∙ old.held_is)));
+  checkpoint =
+      let old = c.args.self.now in
+      let desk = old.shared.desk in
+      λ bytes some.
+      let flew = flew_some desk.view.state _ bytes c.in-Ok.ensures.flying.snapshot some in
+      let lands = lands_area desk c.land.new.self (receipted c.args.receipt).inputs bytes flew old.next_is old.counts c.in-Ok.ensures.next c.in-Ok.ensures.flying.inputs in
+      ap (λ (v : TieView). v.durable) c.follow.ensures.known ∙ (lands ∙ ap (λ (d : Durable). with_area d (receipted c.args.receipt).inputs bytes) (sym (ap (λ (v : TieView). v.durable) c.audit.ensures.equal ∙ old.held_is)));
+  flew =
+      let old = c.args.self.now in
+      ap (λ (v : TieView). v.flying) c.audit.ensures.equal ∙ (old.flies ∙ flies_as old.shared.desk _ c.in-Ok.ensures.flying);
+  worked = ap (λ (v : TieView). v.failed) c.audit.ensures.equal ∙ (c.args.self.now.fails ∙ c.in-Ok.ensures.works);
+  free =
+      ap (λ (v : TieView). launch_refusal v.failed v.flying) c.follow.ensures.known
+      ∙ landed_free c.args.self.now.shared.desk c.land.new.self c.in-Ok.ensures.next c.accepted-accepted.ensures.counts c.in-Ok.ensures.works;
+  refusal = tt;
+  cause = tt;
+  back = tt;
+  tie = tt;
+}
 
-pub returns-in-Ok-clause-checkpoint : goal.returns-in-Ok-clause-checkpoint
-returns-in-Ok-clause-checkpoint g c =
-    let old = c.args.self.now in
-    let desk = old.shared.desk in
-    λ bytes some.
-    let flew = flew_some desk.view.state _ bytes c.in-Ok.ensures.flying.snapshot some in
-    let lands = lands_area desk c.land.new.self (receipted c.args.receipt).inputs bytes flew old.next_is old.counts c.in-Ok.ensures.next c.in-Ok.ensures.flying.inputs in
-    ap (λ (v : TieView). v.durable) c.follow.ensures.known ∙ (lands ∙ ap (λ (d : Durable). with_area d (receipted c.args.receipt).inputs bytes) (sym (ap (λ (v : TieView). v.durable) c.audit.ensures.equal ∙ old.held_is)))
-
-pub returns-in-Ok-clause-flew : goal.returns-in-Ok-clause-flew
-returns-in-Ok-clause-flew g c =
-    let old = c.args.self.now in
-    ap (λ (v : TieView). v.flying) c.audit.ensures.equal ∙ (old.flies ∙ flies_as old.shared.desk _ c.in-Ok.ensures.flying)
-
-pub returns-in-Ok-clause-worked : goal.returns-in-Ok-clause-worked
-returns-in-Ok-clause-worked g c = ap (λ (v : TieView). v.failed) c.audit.ensures.equal ∙ (c.args.self.now.fails ∙ c.in-Ok.ensures.works)
-
-pub returns-in-Ok-clause-free : goal.returns-in-Ok-clause-free
-returns-in-Ok-clause-free g c =
-    ap (λ (v : TieView). launch_refusal v.failed v.flying) c.follow.ensures.known
-    ∙ landed_free c.args.self.now.shared.desk c.land.new.self c.in-Ok.ensures.next c.accepted-accepted.ensures.counts c.in-Ok.ensures.works
-
-pub returns-in-Err-clause-cause : goal.returns-in-Err-clause-cause
-returns-in-Err-clause-cause g c = λ flies works.
-    let old = c.args.self.now in
-    c.in-Err.ensures.foreign.1 (as_flies old.shared.desk _ (sym (ap (λ (v : TieView). v.flying) c.audit.ensures.equal ∙ old.flies) ∙ flies)) (sym (ap (λ (v : TieView). v.failed) c.audit.ensures.equal ∙ old.fails) ∙ works)
+pub returns-in-Err-clause-tied : goal.returns-in-Err-clause-tied
+returns-in-Err-clause-tied g c = record {
+  count = tt;
+  kind = tt;
+  few = tt;
+  again = tt;
+  brought = tt;
+  batch = tt;
+  checkpoint = tt;
+  flew = tt;
+  worked = tt;
+  free = tt;
+  refusal = search rules;
+  cause =
+      λ flies works.
+      let old = c.args.self.now in
+      c.in-Err.ensures.foreign.1 (as_flies old.shared.desk _ (sym (ap (λ (v : TieView). v.flying) c.audit.ensures.equal ∙ old.flies) ∙ flies)) (sym (ap (λ (v : TieView). v.failed) c.audit.ensures.equal ∙ old.fails) ∙ works);
+  back = search rules;
+  tie = search rules;
+}

@@ -1,4 +1,4 @@
-use Rattle.std.proofs.Common.{true, ◌≡◌, ◌⊎◌, ◌+◌, ◌≤◌, [], length, take, append-nil, false, sym, ap, ◌∙◌, subst, arith, Option, Some, None, IfErr, IfNone, IfOk, OnOk}
+use Rattle.std.proofs.Common.{rules, true, ◌≡◌, ◌⊎◌, ◌+◌, ◌≤◌, [], length, take, append-nil, false, sym, ap, ◌∙◌, subst, arith, Option, Some, None, IfErr, IfNone, IfOk, OnOk}
 use Rattle.std.specs.Prelude.{MatchOption}
 use Rattle.commit_hub.specs.Holders.{known_by}
 use Rattle.group_commit.specs.Next.{Durable, durable_part}
@@ -36,27 +36,6 @@ invariant_of-self g c =
       next_is = l.next;
     }
 
-pub returns-clause-next : goal.returns-clause-next
-returns-clause-next g c =
-    let old = c.args.self.now in
-    fits_next c.launch_next-launched.result old.shared.desk _ _ _ old.of old.opening (sym old.held_is ∙ sym (ap (λ (v : TieView). v.durable) c.follow.ensures.equal)) c.launch_next-launched.ensures.fits
-
-pub returns-clause-based : goal.returns-clause-based
-returns-clause-based g c =
-    let old = c.args.self.now in
-    let s = old.shared.desk.view.state in
-    let within : (durable_part old.shared.desk).base.inputs ≤ length (durable_part old.shared.desk).inputs = omega (arith, old.counts.based, durable_count s old.counts) in
-    subst (λ (d : Durable). d.base.inputs ≤ length d.inputs) (sym old.held_is ∙ sym (ap (λ (v : TieView). v.durable) c.follow.ensures.equal)) within
-
-pub returns-clause-none : goal.returns-clause-none
-returns-clause-none g c =
-    let old = c.args.self.now in
-    let desk = old.shared.desk in
-    let count = ap (λ (d : Durable). length d.inputs) (ap (λ (v : TieView). v.durable) c.follow.ensures.equal ∙ old.held_is) ∙ durable_count desk.view.state old.counts in
-    let durable : g.A.NodeLedger.opening.inputs + length (known_by c.args.tie.now).inputs ≡ desk.opening.inputs + desk.view.state.durable = (λ i. (sym old.opening i).inputs + count i) in
-    let within : g.A.NodeLedger.opened ≤ desk.opening.inputs + length desk.view.state.inputs = omega (arith, c.audit.ensures.bound, old.first_is.1, old.first_is.2, old.counted) in
-    none_waits old.is_wanted c.launch_next-launched.result desk c.launch_next-launched.new.self _ _ c.launch_next-launched.ensures.work durable within
-
 -- what a desk has durable stays behind a launch
 pub follow-requires-clause-longer : goal.follow-requires-clause-longer
 follow-requires-clause-longer g c =
@@ -65,51 +44,58 @@ follow-requires-clause-longer g c =
     let l = launches old.is_wanted c.launch_next-launched.result desk c.launch_next-launched.new.self old.counts old.next_is c.launch_next-launched.ensures.next c.launch_next-launched.ensures.free c.launch_next-launched.ensures.same in
     ([], append-nil _ ∙ (ap (λ (d : Durable). d.inputs) old.held_is ∙ sym (λ i. take (l.durable i) (l.inputs i))))
 
-pub returns-clause-tie : goal.returns-clause-tie
-returns-clause-tie g c =
-    let old = c.args.self.now in
-    let desk = old.shared.desk in
-    let l = launches old.is_wanted c.launch_next-launched.result desk c.launch_next-launched.new.self old.counts old.next_is c.launch_next-launched.ensures.next c.launch_next-launched.ensures.free c.launch_next-launched.ensures.same in
-    ap (λ (v : TieView). v.durable) c.follow.ensures.known ∙ ((λ i. record { base = l.base i; inputs = take (l.durable i) (l.inputs i) }) ∙ sym (ap (λ (v : TieView). v.durable) c.follow.ensures.equal ∙ old.held_is))
-
-pub returns-clause-works : goal.returns-clause-works
-returns-clause-works g c =
-    let old = c.args.self.now in
-    let desk = old.shared.desk in
-    let l = launches old.is_wanted c.launch_next-launched.result desk c.launch_next-launched.new.self old.counts old.next_is c.launch_next-launched.ensures.next c.launch_next-launched.ensures.free c.launch_next-launched.ensures.same in
-    ap (λ (v : TieView). v.failed) c.follow.ensures.known ∙ (l.failed ∙ sym (ap (λ (v : TieView). v.failed) c.follow.ensures.equal ∙ old.fails))
-
 -- why nothing is launched, as the tie knows it
 objected : (knows : TieView) (v : TieView) (desk : DeskKept) → knows ≡ v → v.failed ≡ desk.view.failed → v.flying ≡ flying_part desk → IsNodeState desk.view.state
     → launch_refusal knows.failed knows.flying ≡ launch_objection desk.view
 objected knows v desk equal fails flies counts = ap (λ (k : TieView). launch_refusal k.failed k.flying) equal ∙ ((λ i. launch_refusal (fails i) (flies i)) ∙ refusal_is desk counts)
 
-pub returns-clause-cause : goal.returns-clause-cause
-returns-clause-cause g c =
-    let old = c.args.self.now in
-    subst (λ (o : Option Refusal). IfErr c.launch_next-launched.result (λ why. (o ≡ Some why) ⊎ ((o ≡ None) × (why ≡ refused.OutOfMemory))))
-    (sym (objected _ _ old.shared.desk c.follow.ensures.equal old.fails old.flies old.counts)) c.launch_next-launched.ensures.refusal
-
-pub returns-clause-idle : goal.returns-clause-idle
-returns-clause-idle g c =
-    let old = c.args.self.now in
-    subst (λ (o : Option Refusal). OnOk c.launch_next-launched.result (o ≡ None))
-    (sym (objected _ _ old.shared.desk c.follow.ensures.equal old.fails old.flies old.counts)) c.launch_next-launched.ensures.free
-
-pub returns-clause-waits : goal.returns-clause-waits
-returns-clause-waits g c =
-    let old = c.args.self.now in
-    on_err c.launch_next-launched.result _ _ (λ (same : c.launch_next-launched.new.self ≡ old.shared.desk).
-    ap (λ (k : TieView). launch_refusal k.failed k.flying) c.follow.ensures.known
-    ∙ (ap (λ (d : DeskKept). launch_refusal d.view.failed (flying_part d)) same
-    ∙ sym (ap (λ (k : TieView). launch_refusal k.failed k.flying) c.follow.ensures.equal ∙ (λ i. launch_refusal (old.fails i) (old.flies i))))) c.launch_next-launched.ensures.same
-
-pub returns-clause-flies : goal.returns-clause-flies
-returns-clause-flies g c =
-    let old = c.args.self.now in
-    subst (λ (v : TieView). IfOk c.launch_next-launched.result (λ some. MatchOption some (launch_refusal v.failed v.flying ≡ None) (λ work. v.flying ≡ flown_by work)))
-    (sym c.follow.ensures.known)
-    (launch_flies old.is_wanted c.launch_next-launched.result old.shared.desk c.launch_next-launched.new.self old.counts c.launch_next-launched.ensures.free c.launch_next-launched.ensures.next c.launch_next-launched.ensures.work)
+pub returns-clause-tied : goal.returns-clause-tied
+returns-clause-tied g c = record {
+  next =
+      let old = c.args.self.now in
+      fits_next c.launch_next-launched.result old.shared.desk _ _ _ old.of old.opening (sym old.held_is ∙ sym (ap (λ (v : TieView). v.durable) c.follow.ensures.equal)) c.launch_next-launched.ensures.fits;
+  none =
+      let old = c.args.self.now in
+      let desk = old.shared.desk in
+      let count = ap (λ (d : Durable). length d.inputs) (ap (λ (v : TieView). v.durable) c.follow.ensures.equal ∙ old.held_is) ∙ durable_count desk.view.state old.counts in
+      let durable : g.A.NodeLedger.opening.inputs + length (known_by c.args.tie.now).inputs ≡ desk.opening.inputs + desk.view.state.durable = (λ i. (sym old.opening i).inputs + count i) in
+      let within : g.A.NodeLedger.opened ≤ desk.opening.inputs + length desk.view.state.inputs = omega (arith, c.audit.ensures.bound, old.first_is.1, old.first_is.2, old.counted) in
+      none_waits old.is_wanted c.launch_next-launched.result desk c.launch_next-launched.new.self _ _ c.launch_next-launched.ensures.work durable within;
+  flies =
+      let old = c.args.self.now in
+      subst (λ (v : TieView). IfOk c.launch_next-launched.result (λ some. MatchOption some (launch_refusal v.failed v.flying ≡ None) (λ work. v.flying ≡ flown_by work)))
+      (sym c.follow.ensures.known)
+      (launch_flies old.is_wanted c.launch_next-launched.result old.shared.desk c.launch_next-launched.new.self old.counts c.launch_next-launched.ensures.free c.launch_next-launched.ensures.next c.launch_next-launched.ensures.work);
+  cause =
+      let old = c.args.self.now in
+      subst (λ (o : Option Refusal). IfErr c.launch_next-launched.result (λ why. (o ≡ Some why) ⊎ ((o ≡ None) × (why ≡ refused.OutOfMemory))))
+      (sym (objected _ _ old.shared.desk c.follow.ensures.equal old.fails old.flies old.counts)) c.launch_next-launched.ensures.refusal;
+  idle =
+      let old = c.args.self.now in
+      subst (λ (o : Option Refusal). OnOk c.launch_next-launched.result (o ≡ None))
+      (sym (objected _ _ old.shared.desk c.follow.ensures.equal old.fails old.flies old.counts)) c.launch_next-launched.ensures.free;
+  based =
+      let old = c.args.self.now in
+      let s = old.shared.desk.view.state in
+      let within : (durable_part old.shared.desk).base.inputs ≤ length (durable_part old.shared.desk).inputs = omega (arith, old.counts.based, durable_count s old.counts) in
+      subst (λ (d : Durable). d.base.inputs ≤ length d.inputs) (sym old.held_is ∙ sym (ap (λ (v : TieView). v.durable) c.follow.ensures.equal)) within;
+  tie =
+      let old = c.args.self.now in
+      let desk = old.shared.desk in
+      let l = launches old.is_wanted c.launch_next-launched.result desk c.launch_next-launched.new.self old.counts old.next_is c.launch_next-launched.ensures.next c.launch_next-launched.ensures.free c.launch_next-launched.ensures.same in
+      ap (λ (v : TieView). v.durable) c.follow.ensures.known ∙ ((λ i. record { base = l.base i; inputs = take (l.durable i) (l.inputs i) }) ∙ sym (ap (λ (v : TieView). v.durable) c.follow.ensures.equal ∙ old.held_is));
+  works =
+      let old = c.args.self.now in
+      let desk = old.shared.desk in
+      let l = launches old.is_wanted c.launch_next-launched.result desk c.launch_next-launched.new.self old.counts old.next_is c.launch_next-launched.ensures.next c.launch_next-launched.ensures.free c.launch_next-launched.ensures.same in
+      ap (λ (v : TieView). v.failed) c.follow.ensures.known ∙ (l.failed ∙ sym (ap (λ (v : TieView). v.failed) c.follow.ensures.equal ∙ old.fails));
+  waits =
+      let old = c.args.self.now in
+      on_err c.launch_next-launched.result _ _ (λ (same : c.launch_next-launched.new.self ≡ old.shared.desk).
+      ap (λ (k : TieView). launch_refusal k.failed k.flying) c.follow.ensures.known
+      ∙ (ap (λ (d : DeskKept). launch_refusal d.view.failed (flying_part d)) same
+      ∙ sym (ap (λ (k : TieView). launch_refusal k.failed k.flying) c.follow.ensures.equal ∙ (λ i. launch_refusal (old.fails i) (old.flies i))))) c.launch_next-launched.ensures.same;
+}
 
 pub returns-clause-done : goal.returns-clause-done
 returns-clause-done g c =

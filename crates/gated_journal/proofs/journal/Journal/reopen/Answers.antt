@@ -1,4 +1,4 @@
-use Rattle.std.proofs.Common.{rules, ◌≡◌, ℕ, List, length, refl, sym, ◌∙◌, ap, subst, arith}
+use Rattle.std.proofs.Common.{rules, ◌≡◌, inl, inr, ⊎_elim, ℕ, List, length, refl, sym, ◌∙◌, ap, subst, arith}
 use Rattle.ring_records.specs.Admission.{costs_of}
 use Rattle.ring_records.specs.Member.{member}
 use Rattle.ring_records.specs.Snapshot.{snapshot_len}
@@ -9,6 +9,7 @@ use Rattle.gated_journal.proofs.AreaBeside.{start_low}
 use Rattle.gated_journal.proofs.AreaKept.{base_few, behind_base, base_sound}
 use Rattle.gated_journal.proofs.AreaRest.{all_read, in_use}
 use Rattle.gated_journal.proofs.Costs.{costs}
+use Rattle.gated_journal.proofs.OnlyReads.{is_synced}
 use Rattle.gated_journal.proofs.journal.Journal.reopen.Goals as goal
 
 pub costs_of-requires : goal.costs_of-requires
@@ -49,10 +50,10 @@ invariant_of-journal g c =
     let disk = g.D.Device.disk c.open.new.device in
     let a = f.area in
     let r = reading_of a f.contents in
-    let same = sym c.open.ensures.image in
+    let same = sym c.open.ensures.device.image in
     record {
       settled = λ ready. in_use header disk _ r (record {
-        rest = record { synced = c.in-Ok.ensures.synced; gate = subst (λ (l : List ℕ). IsGate a.is_closed a.other l) same c.in-Ok.ensures.gate };
+        rest = record { synced = is_synced g.D.Device _ _ _ _ _ c.in-Ok.is c.open.ensures.device; gate = subst (λ (l : List ℕ). IsGate a.is_closed a.other l) same c.in-Ok.ensures.gate };
         here = record {
           capacity = refl;
           at = subst (λ (l : List ℕ). ReadsAt header l r a.start a.other a.offset f.contents.gate_at) same c.in-Ok.ensures.reads;
@@ -76,7 +77,7 @@ returns-in-Ok-clause-durable g c =
     let disk = g.D.Device.disk c.open.new.device in
     let a = f.area in
     let r = reading_of a f.contents in
-    all_read header disk r a.start a.other a.offset f.contents.gate_at c.in-Ok.ensures.synced (subst (λ (l : List ℕ). ReadsAt header l r a.start a.other a.offset f.contents.gate_at) (sym c.open.ensures.image) c.in-Ok.ensures.reads)
+    all_read header disk r a.start a.other a.offset f.contents.gate_at (is_synced g.D.Device _ _ _ _ _ c.in-Ok.is c.open.ensures.device) (subst (λ (l : List ℕ). ReadsAt header l r a.start a.other a.offset f.contents.gate_at) (sym c.open.ensures.device.image) c.in-Ok.ensures.reads)
 
 pub returns-in-Ok-clause-sound : goal.returns-in-Ok-clause-sound
 returns-in-Ok-clause-sound g c =
@@ -87,3 +88,6 @@ pub summary_len-requires : goal.summary_len-requires
 summary_len-requires g c =
     let f = c.in-Ok.field-0 in
     record { floors = base_few c.args.n f.area.start _ (reading_of f.area f.contents) f.area.offset c.in-Ok.ensures.reads.begins }
+
+pub returns-in-Err-clause-works : goal.returns-in-Err-clause-works
+returns-in-Err-clause-works g c = λ reach. ⊎_elim (λ memory. inl memory.2) (λ unread. inr unread) (c.in-Err.ensures.device.works reach)

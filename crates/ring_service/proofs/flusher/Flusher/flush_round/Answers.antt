@@ -22,40 +22,40 @@ use Rattle.ring_service.proofs.flusher.Flusher.flush_round.Goals as goal
 pub returns-then-is_err-clause-any_moment : goal.returns-then-is_err-clause-any_moment
 returns-then-is_err-clause-any_moment g c =
     let device = device_of (journal_of c.args.self.now) in
-    λ goes_on r reads. idle g.V.Device.clock g.V.Device.left_since device (g.V.Device.disk device) g.A.NodeLedger.member g.A.NodeLedger.opening _ r (g.met.V.Device.only_now device) reads
+    λ goes_on r reads. idle g.V.Device device (g.V.Device.disk device) g.A.NodeLedger.member g.A.NodeLedger.opening _ r (g.met.V.Device.only_now device) reads
 
 pub returns-in-Err-clause-any_moment : goal.returns-in-Err-clause-any_moment
 returns-in-Err-clause-any_moment g c =
     let device = device_of (journal_of c.args.self.now) in
-    λ goes_on r reads. idle g.V.Device.clock g.V.Device.left_since device (g.V.Device.disk device) g.A.NodeLedger.member g.A.NodeLedger.opening _ r (g.met.V.Device.only_now device) reads
+    λ goes_on r reads. idle g.V.Device device (g.V.Device.disk device) g.A.NodeLedger.member g.A.NodeLedger.opening _ r (g.met.V.Device.only_now device) reads
 
 pub returns-in-Ok-None-clause-any_moment : goal.returns-in-Ok-None-clause-any_moment
 returns-in-Ok-None-clause-any_moment g c =
     let device = device_of (journal_of c.args.self.now) in
-    λ goes_on r reads. idle g.V.Device.clock g.V.Device.left_since device (g.V.Device.disk device) g.A.NodeLedger.member g.A.NodeLedger.opening _ r (g.met.V.Device.only_now device) reads
+    λ goes_on r reads. idle g.V.Device device (g.V.Device.disk device) g.A.NodeLedger.member g.A.NodeLedger.opening _ r (g.met.V.Device.only_now device) reads
 
 -- a growth was refused
 
 pub returns-in-Err-clause-refusal : goal.returns-in-Err-clause-refusal
-returns-in-Err-clause-refusal g c = inl (inl (short _ _ (c.args.self.now.free c.if-self.false) c.in-Err.ensures.cause))
+returns-in-Err-clause-refusal g c = inl (inl (short _ _ (c.args.self.now.free c.if-self.false) c.in-Err.ensures.tied.cause))
 
 pub returns-in-Err-clause-in_reach : goal.returns-in-Err-clause-in_reach
-returns-in-Err-clause-in_reach g c = λ reaches. inl (short _ _ (c.args.self.now.free c.if-self.false) c.in-Err.ensures.cause)
+returns-in-Err-clause-in_reach g c = λ reaches. inl (short _ _ (c.args.self.now.free c.if-self.false) c.in-Err.ensures.tied.cause)
 
 pub returns-in-Err-clause-ends : goal.returns-in-Err-clause-ends
-returns-in-Err-clause-ends g c = inl (inl (short _ _ (c.args.self.now.free c.if-self.false) c.in-Err.ensures.cause))
+returns-in-Err-clause-ends g c = inl (inl (short _ _ (c.args.self.now.free c.if-self.false) c.in-Err.ensures.tied.cause))
 
 pub returns-in-Err-clause-failed : goal.returns-in-Err-clause-failed
-returns-in-Err-clause-failed g c = λ failed. let lack = short _ _ (c.args.self.now.free c.if-self.false) c.in-Err.ensures.cause in absurd cc
+returns-in-Err-clause-failed g c = λ failed. let lack = short _ _ (c.args.self.now.free c.if-self.false) c.in-Err.ensures.tied.cause in absurd cc
 
 -- its work flies, and the hub has not failed
 
 pub settle-requires-clause-flies : goal.settle-requires-clause-flies
 settle-requires-clause-flies g c =
-    of_match c.in-Ok-Some.field-0 c.in-Ok-Some.work _ (λ work. (view_by c.launch.new.tie).flying ≡ flown_by work) c.in-Ok-Some.field-0-is c.in-Ok-Some.ensures.flies
+    of_match c.in-Ok-Some.field-0 c.in-Ok-Some.work _ (λ work. (view_by c.launch.new.tie).flying ≡ flown_by work) c.in-Ok-Some.field-0-is c.in-Ok-Some.ensures.tied.flies
 
 pub settle-requires-clause-works : goal.settle-requires-clause-works
-settle-requires-clause-works g c = c.launch.ensures.works ∙ works (view_by c.args.self.now.tie).failed (view_by c.args.self.now.tie).flying (c.args.self.now.free c.if-self.false)
+settle-requires-clause-works g c = c.launch.ensures.tied.works ∙ works (view_by c.args.self.now.tie).failed (view_by c.args.self.now.tie).flying (c.args.self.now.free c.if-self.false)
 
 -- a batch or a checkpoint was
 
@@ -67,8 +67,8 @@ returns-in-Ok-clause-round g c =
     let inputs = (flown_by w).inputs in
     let disk = g.V.Device.disk (device_of (journal_of c.args.self.now)) in
     let behind = g.V.Device.disk (device_of c.settle.new.journal) in
-    let next = of_some c.in-Ok-Some.field-0 w (IsNext m o (known_by c.args.self.now.tie)) c.in-Ok-Some.field-0-is c.in-Ok-Some.ensures.next in
-    let same = c.launch.ensures.tie in
+    let next = of_some c.in-Ok-Some.field-0 w (IsNext m o (known_by c.args.self.now.tie)) c.in-Ok-Some.field-0-is c.in-Ok-Some.ensures.tied.next in
+    let same = c.launch.ensures.tied.tie in
     let kept = c.take_notices-told.ensures.same in
     record {
       inputs = inputs;
@@ -82,7 +82,7 @@ returns-in-Ok-clause-round g c =
       within = (
           let journal = journal_of c.args.self.now in
           let of = c.args.self.now.member c.if-self.false in
-          λ r reads. moments g.V.Device.clock g.V.Device.left_since (device_of journal) (device_of c.settle.new.journal) (member_of journal) m (known_by c.args.self.now.tie) (epoch_of journal) r inputs (summary_by w)
+          λ r reads. moments g.V.Device (device_of journal) (device_of c.settle.new.journal) (member_of journal) m (known_by c.args.self.now.tie) (epoch_of journal) r inputs (summary_by w)
           of (c.args.self.now.known c.if-self.false).area (c.settle.ensures.any_moment r (subst (λ (x : Member). AllReadAs x disk r) (sym of) reads))
           );
       brought = λ past is.
@@ -100,20 +100,20 @@ pub returns-in-Err-settle-clause-any_moment : goal.returns-in-Err-settle-clause-
 returns-in-Err-settle-clause-any_moment g c =
     let journal = journal_of c.args.self.now in
     let w = c.in-Ok-Some.work in
-    let next = of_some c.in-Ok-Some.field-0 w (IsNext g.A.NodeLedger.member g.A.NodeLedger.opening (known_by c.args.self.now.tie)) c.in-Ok-Some.field-0-is c.in-Ok-Some.ensures.next in
+    let next = of_some c.in-Ok-Some.field-0 w (IsNext g.A.NodeLedger.member g.A.NodeLedger.opening (known_by c.args.self.now.tie)) c.in-Ok-Some.field-0-is c.in-Ok-Some.ensures.tied.next in
     λ goes_on r reads.
     let same = c.args.self.now.member goes_on in
     let made = makes g.A.NodeLedger.member g.A.NodeLedger.opening _ w (λ e. omega (arith, (c.count.ensures.size e).1, c.count.ensures.value)) next in
-    written g.V.Device.clock g.V.Device.left_since (device_of journal) (device_of c.settle.new.journal) (member_of journal) g.A.NodeLedger.member g.A.NodeLedger.opening _ (epoch_of journal) r
+    written g.V.Device (device_of journal) (device_of c.settle.new.journal) (member_of journal) g.A.NodeLedger.member g.A.NodeLedger.opening _ (epoch_of journal) r
     (flown_by w).inputs (summary_by w) same (c.args.self.now.known goes_on).area made (c.settle.ensures.any_moment r (subst (λ (m : Member). AllReadAs m (g.V.Device.disk (device_of journal)) r) (sym same) reads))
 
 pub returns-in-Ok-clause-any_moment : goal.returns-in-Ok-clause-any_moment
 returns-in-Ok-clause-any_moment g c =
     let journal = journal_of c.args.self.now in
     let w = c.in-Ok-Some.work in
-    let next = of_some c.in-Ok-Some.field-0 w (IsNext g.A.NodeLedger.member g.A.NodeLedger.opening (known_by c.args.self.now.tie)) c.in-Ok-Some.field-0-is c.in-Ok-Some.ensures.next in
+    let next = of_some c.in-Ok-Some.field-0 w (IsNext g.A.NodeLedger.member g.A.NodeLedger.opening (known_by c.args.self.now.tie)) c.in-Ok-Some.field-0-is c.in-Ok-Some.ensures.tied.next in
     λ goes_on r reads.
     let same = c.args.self.now.member goes_on in
     let made = makes g.A.NodeLedger.member g.A.NodeLedger.opening _ w (λ e. omega (arith, (c.count.ensures.size e).1, c.count.ensures.value)) next in
-    written g.V.Device.clock g.V.Device.left_since (device_of journal) (device_of c.settle.new.journal) (member_of journal) g.A.NodeLedger.member g.A.NodeLedger.opening _ (epoch_of journal) r
+    written g.V.Device (device_of journal) (device_of c.settle.new.journal) (member_of journal) g.A.NodeLedger.member g.A.NodeLedger.opening _ (epoch_of journal) r
     (flown_by w).inputs (summary_by w) same (c.args.self.now.known goes_on).area made (c.settle.ensures.any_moment r (subst (λ (m : Member). AllReadAs m (g.V.Device.disk (device_of journal)) r) (sym same) reads))

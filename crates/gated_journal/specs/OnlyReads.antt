@@ -1,0 +1,46 @@
+-- What a call does that only reads a device.
+use Rattle.std.specs.Prelude.{◌≡◌, ◌⊎◌, ℕ, ◌≤◌, length, Result, OnOk, IfErr}
+use Rattle.disk_model.specs.declared.device.Device.{Ghosts}
+use Rattle.disk_model.specs.Disk.{MayLeave, LeavesOnly, Reaches, synced}
+use Rattle.ring_records.specs.declared.refusal.Refusal.{Refusal}
+use Rattle.ring_records.specs.declared.refusal.Refusal.TheVariants.{OutOfMemory}
+use Rattle.gated_journal.specs.Unread.{IsFault}
+
+-- The device keeps its disk and its reach, and a stop leaves what it might have left before. The call is refused where the device
+-- failed, or else for this cause; then, as where it succeeds, nothing failed. Of a reliable device that goes as far as `end` it is
+-- refused for this cause alone.
+pub record OnlyReadsTo {D T : Type 0} (end : ℕ) (g : Ghosts D) (old new : D) (result : Result T Refusal) (Cause : Refusal → Type 0) : Type 0 where
+  pub kept : g.disk new ≡ g.disk old
+  pub any_moment : LeavesOnly g.clock g.left_since old new (MayLeave (g.disk old))
+  pub later : g.count old ≤ g.count new
+  pub same : OnOk result (g.count new ≡ g.count old)
+  pub refusal : IfErr result (λ refusal. IsFault (g.count old) (g.count new) refusal ⊎ Cause refusal)
+  pub first : IfErr result (λ refusal. IsFault (g.count old) (g.count new) refusal ⊎ (g.count new ≡ g.count old))
+  pub stays : g.reach new ≡ g.reach old
+  pub works : Reaches (g.reach old) end → IfErr result Cause
+
+-- it goes no further than the device's end
+abbrev pub OnlyReads : {D T : Type 0} → Ghosts D → D → D → Result T Refusal → (Refusal → Type 0) → Type 0
+OnlyReads g old new result Cause = OnlyReadsTo (length (g.disk old).image) g old new result Cause
+
+-- It makes the device stable before, where that does not fail, so that a stop leaves what it might have left before, and reads
+-- the same.
+pub record SyncsAndReads {D T : Type 0} (g : Ghosts D) (old new : D) (result : Result T Refusal) (Cause : Refusal → Type 0) : Type 0 where
+  pub settled : OnOk result (g.disk new ≡ synced (g.disk old))
+  pub kept : (g.disk new ≡ g.disk old) ⊎ (g.disk new ≡ synced (g.disk old))
+  pub stable : IfErr result (λ refusal. IsFault (g.count old) (g.count new) refusal ⊎ (g.disk new ≡ synced (g.disk old)))
+  pub image : (g.disk new).image ≡ (g.disk old).image
+  pub any_moment : LeavesOnly g.clock g.left_since old new (MayLeave (g.disk old))
+  pub same : OnOk result (g.count new ≡ g.count old)
+  pub refusal : IfErr result (λ refusal. IsFault (g.count old) (g.count new) refusal ⊎ Cause refusal)
+  pub first : IfErr result (λ refusal. IsFault (g.count old) (g.count new) refusal ⊎ (g.count new ≡ g.count old))
+  pub stays : g.reach new ≡ g.reach old
+  pub works : Reaches (g.reach old) (length (g.disk old).image) → IfErr result Cause
+
+-- nothing but a fault of the device
+abbrev pub NoCause : Refusal → Type 0
+NoCause refusal = ⊥
+
+-- no memory, or else this
+abbrev pub MemoryOr : (Refusal → Type 0) → Refusal → Type 0
+MemoryOr Cause refusal = (refusal ≡ OutOfMemory) ⊎ Cause refusal
