@@ -1,7 +1,7 @@
 # run: an example, before any proof. test: the names in the documents, and the merge gate. wrong_bodies: the wrong bodies that the gate does not try, those too that a test has to refuse, of CRATES or of all.
 # rows: the rows of crates/rows/data, played by what is not proved, and written with what is printed now.
 # docs: bin/promises.md, each promise and each wrong body, by the sources.
-# bin/NAME: a proved program. bench: the times of ringctl and of the works of rows.
+# bin/NAME: a proved program. bench: the times of ringctl.
 # ringd: bin/ringd. serve: runs ringd on examples/ring.toml, unproved where bin/ringd is not built.
 # bin/NAME.commit tells the commit that it was built of; install has it in share/ringd/commit.
 # install: bin/ringd, its man page, its units, an example of settings, alerts and the package's wheel, under PREFIX, below DESTDIR.
@@ -35,7 +35,7 @@
 .PHONY: ringd install serve fencing clients picture pictures kills years earlier load short threads scrapes writeback syncs fuzz faults growths hangs flips
 .PHONY: starts docs unit image copies alerts deb runbook full uses hosts turns lost_host
 
-KINDS = bench console node ringd session settings
+KINDS = console node ringd session settings
 ROWS = $(KINDS:%=crates/rows/data/%.rows)
 
 run:
@@ -133,8 +133,8 @@ years: bin/ringd
 earlier: bin/ringd
 	@trials/earlier.py --earlier "$(EARLIER)"
 
-bench: bin/ringctl bin/rows
-	@bench/measure.sh bin/ringctl bin/rows
+bench: bin/ringctl
+	@bench/measure.sh bin/ringctl
 
 short: bin/ringd
 	@trials/short.py --ringd bin/ringd

@@ -21,8 +21,6 @@ pub enum InMemory {
 /// What the rows of a file ask.
 #[derive(Clone, Copy)]
 pub enum Kind {
-    /// Works of parts of the service, and what they count.
-    Bench,
     InMemory(InMemory),
     /// `ringd` over folders and sockets.
     Ringd,
@@ -32,7 +30,6 @@ impl Kind {
     /// The kind of this word.
     pub fn named(word: &str) -> Option<Kind> {
         match word {
-            "bench" => Some(Kind::Bench),
             "console" => Some(Kind::InMemory(InMemory::Console)),
             "node" => Some(Kind::InMemory(InMemory::Node)),
             "ringd" => Some(Kind::Ringd),

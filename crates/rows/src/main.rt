@@ -1,9 +1,8 @@
-//! `rows KIND FILE ..` plays the rows of each file as the kind before it says, `bench`, `console`, `node`, `ringd`,
-//! `session` or `settings`, and prints them with what they print now: rows that hold are printed as they were read. README.md tells their
+//! `rows KIND FILE ..` plays the rows of each file as the kind before it says, `console`, `node`, `ringd`, `session` or
+//! `settings`, and prints them with what they print now: rows that hold are printed as they were read. README.md tells their
 //! form. Where a file is not played, why stands on standard error, and the status is 1, or 2 where the words are wrong.
 #![tactic(auto)]
 
-mod bench;
 mod console;
 mod kind;
 mod lines;
@@ -25,7 +24,6 @@ fn main(rt: HostRuntime) -> ExitCode {
     };
     for rows in &all {
         let played = match rows.kind {
-            Kind::Bench => bench::played(&rt, &rt, &rows.text),
             Kind::InMemory(kind) => kind.played(rt.alloc(), &rows.text),
             Kind::Ringd => ringd::played(&rt, &rows.text),
         };

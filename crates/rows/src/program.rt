@@ -15,7 +15,7 @@ const ROWS_BYTES: usize = 1_000_000;
 #[derive(Clone, Copy, Debug, Error)]
 pub enum RowsFault {
     /// A word is no kind, or no file stands behind one.
-    #[error("usage: rows KIND FILE .., a KIND being bench, console, node, ringd, session or settings")]
+    #[error("usage: rows KIND FILE .., a KIND being console, node, ringd, session or settings")]
     Words,
     /// The file cannot be read.
     #[error("rows cannot be read")]
