@@ -40,7 +40,7 @@ SAID = re.compile(r"|".join([r"", r"ringd: out of memory\n", r"ringd: node [1-3]
                              r"ringd: no thread can be started\n"]))
 SECONDS = 10
 # The crates whose tests call again after a refusal.
-GROWN = ("journal_tests", "node_tests", "ring_tests", "service_tests")
+GROWN = ("ring_tests", "server_tests")
 
 
 class Trial:
