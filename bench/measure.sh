@@ -21,8 +21,8 @@ best() {
     done
 }
 
-# grows TEXT WORK LESS MORE [BASE]: prints the time of the work, less that of its BASE of as many, and how many times as long more of it
-# takes than less.
+# grows TEXT WORK LESS MORE [BASE]: prints how long more of the work takes, without its BASE of as much, and how many times as long that
+# is as less of it.
 grows() {
     local less more
     best "$2" "$3"; less=$least
@@ -46,9 +46,8 @@ each() {
 
 grows "lines of a script" mixed 29000 58000
 echo "of these $(grep -c ': stood' "$room/out") stood, $(grep -c ': taken' "$room/out") were taken, $(grep -c 'no ' "$room/out") refused"
-grows "flushes of 64 stands" flush 282 564
-grows "elections by three of three nodes" elect 400 4000
-grows "elections audited, beside the elections" audit 400 4000 elect
-grows "terms retired at once, beside their elections" retire 1000 10000 know
-each "a node of 36,096 inputs opened again" recover 20
-each "a checkpoint of such a node" checkpoint 20
+grows "elections" elect 300 3000
+grows "elections audited" audit 300 3000 elect
+grows "terms given up at once" retire 300 3000 elect
+each "a node of 3,000 elections opened again" recover 100
+each "a checkpoint of such a node" checkpoint 100

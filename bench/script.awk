@@ -1,29 +1,17 @@
-# A script of so many works (-v work=flush -v count=564), 1,000,000 bytes at most:
+# A script of so many works (-v work=mixed -v count=58000), 1,000,000 bytes at most:
 #
 #   mixed       lines over 997 groups on a ring of 16: at each node in turn a stand, the delivery of the next message of its
 #               link, and a question
-#   elect       elections of one group on a ring of three, each by three candidates
+#   elect       elections of one group on a ring of three, 3,072 at most, by each node in turn
 #   audit       the same, and an audit
-#   know        elections of one group on a ring of two, by one candidate
 #   retire      the same, and node 1 gives up all terms but the last
-#   flush       flushes of 64 stands each at one node
-#   recover     564 such flushes, and so many crashes
+#   recover     3,000 elections, and so many crashes of node 1
 #   checkpoint  the same, and so many checkpoints
-function elect(nodes, standing, term, node) {
-    print "ring", nodes, "eager", 1048576
-    for (term = 1; term <= count; term++) {
-        for (node = 1; node <= standing; node++)
-            print "stand", node, "red", term, node
+function elect(terms, term) {
+    print "ring 3 eager 1048576"
+    for (term = 1; term <= terms; term++) {
+        print "stand", term % 3 + 1, "red", term, 10
         print "deliver all"
-    }
-}
-
-function flush(flushes, at) {
-    print "ring", 2, "lazy", 1048576
-    for (at = 1; at <= flushes * 64; at++) {
-        print "stand 1 red", at, 1
-        if (at % 64 == 0)
-            print "flush 1"
     }
 }
 
@@ -51,14 +39,10 @@ function mixed(line, turn, node, group, term) {
 BEGIN {
     if (work == "mixed")
         mixed()
-    else if (work == "elect" || work == "audit")
-        elect(3, 3)
-    else if (work == "know" || work == "retire")
-        elect(2, 1)
-    else if (work == "flush")
-        flush(count)
+    else if (work == "elect" || work == "audit" || work == "retire")
+        elect(count)
     else if (work == "recover" || work == "checkpoint")
-        flush(564)
+        elect(3000)
     else
         exit 2
     if (work == "audit")

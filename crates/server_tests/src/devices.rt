@@ -231,6 +231,19 @@ fn site<R: Abort + AllocGlobal + Net<Listener = TcpListener, Stream = TcpStream>
     Site::new(rt.alloc(), opened, inbox, listener, doors, asked)
 }
 
+/// Adds where this node of three is served.
+fn add_site<R: Abort + AllocGlobal + Net<Listener = TcpListener, Stream = TcpStream>>(
+    rt: &R,
+    sites: &mut Vec<Site<FuseDevice<MemDevice>>>,
+    number: u8,
+    served: Served,
+    inbox: Receiver<Letter>,
+    asked: Option<Receiver<Inquiry>>,
+) {
+    let site = site(rt, number, served, inbox, asked);
+    assert!(rt; sites.push(site).is_ok());
+}
+
 /// Where the three nodes are served, each with a clerk or none.
 fn sites<R: Abort + AllocGlobal + Net<Listener = TcpListener, Stream = TcpStream>>(
     rt: &R,
@@ -243,8 +256,7 @@ fn sites<R: Abort + AllocGlobal + Net<Listener = TcpListener, Stream = TcpStream
     let mut number = 0u8;
     for inbox in inboxes {
         number = number.saturating_add(1);
-        let site = site(rt, number, served, inbox, clerks.next());
-        assert!(rt; sites.push(site).is_ok());
+        add_site(rt, &mut sites, number, served, inbox, clerks.next());
     }
     sites
 }

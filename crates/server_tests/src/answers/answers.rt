@@ -1,10 +1,12 @@
 // The bytes of answers.
 use httpdate::HttpDate;
 use ring_status::{Content, Method, Status, answer_text};
-use std::test::Fail;
+use std::alloc::{AllocError, Global};
 
 /// A method, a status, what the body is, a body, and the bytes of the answer.
-static ANSWERS: [(Method, Status, Content, &str, &str); 8] = [
+type Answer = (Method, Status, Content, &'static str, &'static str);
+
+static ANSWERS: [Answer; 8] = [
     (
         Method::Get,
         Status::Found,
@@ -70,14 +72,19 @@ static ANSWERS: [(Method, Status, Content, &str, &str); 8] = [
     ),
 ];
 
-#[test]
-fn heads_and_bodies(rt: HostRuntime) -> Result<(), Fail> {
-    for row in &ANSWERS {
-        let (method, status, content, body, wanted) = *row;
-        let answer = answer_text(rt.alloc(), method, status, content, None, body)?;
-        assert!(rt; answer.as_str() == wanted);
+fn is_as_wanted(alloc: Global, row: Answer) -> bool {
+    let (method, status, content, body, wanted) = row;
+    match answer_text(alloc, method, status, content, None, body) {
+        Ok(answer) => answer.as_str() == wanted,
+        Err(_) => false,
     }
-    Ok(())
+}
+
+#[test]
+fn heads_and_bodies(rt: HostRuntime) {
+    for row in &ANSWERS {
+        assert!(rt; is_as_wanted(rt.alloc(), *row));
+    }
 }
 
 /// Seconds behind the beginning of 1970, and how an answer tells them: of the first, what RFC 9110 gives as its example.
@@ -88,24 +95,28 @@ static DATES: [(u64, &str); 4] = [
     (253_402_300_800, ""),
 ];
 
-#[test]
-fn dates(rt: HostRuntime) -> Result<(), Fail> {
-    for row in &DATES {
-        let (seconds, wanted) = *row;
-        let date = HttpDate::from_unix_secs(seconds).ok();
-        let answer = answer_text(
-            rt.alloc(),
-            Method::Get,
-            Status::Found,
-            Content::Text,
-            date,
-            "a",
-        )?;
-        let wanted = format!(in rt.alloc();
-            "HTTP/1.1 200 OK\r\nContent-Type: text/plain; charset=utf-8\r\nContent-Length: 1\r\n{wanted}Cache-Control: \
-             no-store\r\nConnection: close\r\n\r\na"
-        )?;
-        assert!(rt; answer.as_str() == wanted.as_str());
+/// The answer `a` at this time.
+fn answer_at(alloc: Global, seconds: u64) -> Result<String, AllocError> {
+    let date = HttpDate::from_unix_secs(seconds).ok();
+    answer_text(alloc, Method::Get, Status::Found, Content::Text, date, "a")
+}
+
+/// Whether the answer is `a` with this line before what says that it is not kept.
+fn is_dated(answer: &str, line: &str) -> bool {
+    match answer.strip_prefix(
+        "HTTP/1.1 200 OK\r\nContent-Type: text/plain; charset=utf-8\r\nContent-Length: 1\r\n",
+    ) {
+        Some(rest) => {
+            rest.strip_prefix(line) == Some("Cache-Control: no-store\r\nConnection: close\r\n\r\na")
+        }
+        None => false,
     }
-    Ok(())
+}
+
+#[test]
+fn dates(rt: HostRuntime) {
+    for (seconds, line) in &DATES {
+        let answer = answer_at(rt.alloc(), *seconds).expect(&rt, "memory");
+        assert!(rt; is_dated(answer.as_str(), line));
+    }
 }
