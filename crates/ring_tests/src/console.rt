@@ -2,6 +2,5 @@
 mod faults;
 mod growths;
 mod lengths;
-mod limits;
 mod lines;
 mod session;

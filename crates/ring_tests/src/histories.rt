@@ -1,88 +1,10 @@
-// What the nodes of a ring hold durably, and which of them have their first inputs no more.
-use crate::worlds::{asks, happens, node, ring, submit, sweeps};
+// What the nodes of a ring hold durably, where a growth is refused.
+use crate::worlds::{node, submit};
 use ring_records::{Input, Refusal};
-use ring_world::{Event, World, audit};
+use ring_world::{Event, World};
 use std::alloc::Global;
 use std::process::Abort;
 use test_rows::Ask;
-
-/// The histories have these lengths, and an audit places so many inputs.
-fn are_whole(rt: &impl Abort, alloc: Global, world: &World, counts: &[usize], placed: usize) {
-    let histories = world.histories().expect(rt, "whole histories");
-    assert!(rt;
-        histories
-            .iter()
-            .map(|inputs| inputs.len())
-            .eq(counts.iter().copied())
-    );
-    let run = audit(alloc, &histories).expect(rt, "a run");
-    assert!(rt; run.len() == placed);
-    drop((histories, run));
-}
-
-/// The node of this number stands for the term of `red`.
-fn stands(rt: &impl Abort, world: &mut World, number: u8, term: u32, bid: u32) {
-    drop(asks(rt, world, number, Ask::Stand("red", term, bid)));
-}
-
-/// The event is not refused.
-fn comes(rt: &impl Abort, world: &mut World, event: Event) {
-    drop(happens(rt, world, event));
-}
-
-/// The node of this number has its first inputs no more, and those before it have theirs.
-fn is_dropped(rt: &impl Abort, world: &World, number: u8) {
-    let refusal = Refusal::Dropped(node(rt, number));
-    match world.histories() {
-        Ok(_) => panic!(rt; "not refused"),
-        Err(was) => assert!(rt; was == refusal),
-    }
-}
-
-#[test]
-fn three_nodes_hold_an_election(rt: HostRuntime) {
-    let mut world = ring(&rt, rt.alloc(), 3, true);
-    are_whole(&rt, rt.alloc(), &world, &[0, 0, 0], 0);
-    for (number, bid) in [(1, 10), (2, 30), (3, 20)] {
-        stands(&rt, &mut world, number, 5, bid);
-    }
-    sweeps(&rt, &mut world, 9);
-    are_whole(&rt, rt.alloc(), &world, &[4, 5, 3], 12);
-    world.end();
-}
-
-#[test]
-fn what_waits_is_no_history(rt: HostRuntime) {
-    let mut world = ring(&rt, rt.alloc(), 2, false);
-    for (term, before, after) in [(1, 0, 1), (2, 1, 2)] {
-        stands(&rt, &mut world, 2, term, 10);
-        are_whole(&rt, rt.alloc(), &world, &[0, before], before);
-        comes(&rt, &mut world, Event::Flush(node(&rt, 2)));
-        are_whole(&rt, rt.alloc(), &world, &[0, after], after);
-    }
-    world.end();
-}
-
-#[test]
-fn an_opening_drops_what_a_checkpoint_summarised(rt: HostRuntime) {
-    let (first, second) = (node(&rt, 1), node(&rt, 2));
-    let mut world = ring(&rt, rt.alloc(), 2, true);
-    comes(&rt, &mut world, Event::Checkpoint(first));
-    comes(&rt, &mut world, Event::Crash(first));
-    are_whole(&rt, rt.alloc(), &world, &[0, 0], 0);
-    for number in [1, 2] {
-        stands(&rt, &mut world, number, 5, 10);
-    }
-    for dropped in [second, first] {
-        comes(&rt, &mut world, Event::Checkpoint(dropped));
-    }
-    are_whole(&rt, rt.alloc(), &world, &[1, 1], 2);
-    comes(&rt, &mut world, Event::Crash(second));
-    is_dropped(&rt, &world, 2);
-    comes(&rt, &mut world, Event::Crash(first));
-    is_dropped(&rt, &world, 1);
-    world.end();
-}
 
 /// A lazy ring of two whose node 1 stood and flushed. Where a growth was refused in that, there is none.
 fn stood(rt: &impl Abort, alloc: Global) -> Option<World> {

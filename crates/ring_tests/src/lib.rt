@@ -1,4 +1,4 @@
-//! The tests below a service: of devices and the journal over them, of records, of a ballot, of a node and its journal, of sessions over
+//! The tests below a service: of devices and the journal over them, of records, of a node and its journal, of sessions over
 //! it, of rings in memory and what happens to them, of the audit of their histories, and of the console.
 //!
 //! What no clause says: that each call succeeds with ample memory, the bytes on a device, what a stop leaves of a batch. What is
@@ -8,11 +8,7 @@
 #[cfg(test)]
 mod audits;
 #[cfg(test)]
-mod ballots;
-#[cfg(test)]
 mod console;
-#[cfg(test)]
-mod crashes;
 #[cfg(test)]
 mod devices;
 #[cfg(test)]
@@ -23,8 +19,6 @@ mod histories;
 mod journal;
 #[cfg(test)]
 mod node;
-#[cfg(test)]
-mod nodes;
 #[cfg(test)]
 mod packets;
 #[cfg(test)]

@@ -1,7 +1,6 @@
 // Packets come from neighbours alone, and only what these released.
-use crate::worlds::{answers, asks, happens, is_refused, node, ring, submit};
+use crate::worlds::{answers, asks, is_refused, ring, submit};
 use ring_records::Refusal;
-use ring_world::Event;
 use test_rows::{Ask, Cause, Note, Say};
 
 /// The request to take a token for term 5 of `red`, under this number, with the bid and the node of its candidate.
@@ -35,35 +34,5 @@ fn nobody_takes_what_was_not_released(rt: HostRuntime) {
         let outcome = asks(&rt, &mut world, to, ask);
         answers(&rt, &outcome, ticket, say);
     }
-    world.end();
-}
-
-#[test]
-fn credits_are_earned(rt: HostRuntime) {
-    let mut world = ring(&rt, rt.alloc(), 3, true);
-    let stood = asks(&rt, &mut world, 1, Ask::Stand("red", 5, 10));
-    answers(&rt, &stood, 1, Say::Stood);
-    let no = 0;
-    let from = node(&rt, 1);
-    let taken = happens(&rt, &mut world, Event::Deliver { from, no });
-    answers(&rt, &taken, 2, Say::Taken);
-    is_refused(
-        &rt,
-        &mut world,
-        Event::Deliver { from, no: 1 },
-        Refusal::Unknown,
-    );
-    for (of, upto, refusal) in [
-        (1, 1, Refusal::Unknown),
-        (2, 0, Refusal::Unknown),
-        (2, 2, Refusal::Unknown),
-        (4, 1, Refusal::BadNumber),
-    ] {
-        let from = node(&rt, of);
-        is_refused(&rt, &mut world, Event::Credit { from, upto }, refusal);
-    }
-    let from = node(&rt, 2);
-    let acked = happens(&rt, &mut world, Event::Credit { from, upto: 1 });
-    answers(&rt, &acked, 3, Say::Acked);
     world.end();
 }

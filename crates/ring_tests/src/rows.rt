@@ -2,15 +2,11 @@
 ghost use Rattle.ring_records.specs.Snapshot.{IsSound};
 
 use ring_records::{
-    Bid, Candidate, Input, Key, LAYOUT, Msg, NodeNo, Refusal, Summary, read_summary, write_summary,
+    Candidate, Input, Key, LAYOUT, Msg, NodeNo, Refusal, Summary, read_summary, write_summary,
 };
 use std::alloc::Global;
 use std::process::Abort;
 use test_rows::{Cause, Note, Op};
-
-pub fn bid(rt: &impl Abort, number: u32) -> Bid {
-    Bid::new(number).expect(rt, "a bid")
-}
 
 pub fn node(rt: &impl Abort, number: u8) -> NodeNo {
     NodeNo::new(number).expect(rt, "a node")

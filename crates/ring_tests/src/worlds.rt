@@ -55,10 +55,3 @@ pub fn is_sealed(rt: &impl Abort, outcome: &Outcome, ticket: u64) {
     assert!(rt; outcome.ticket == Some(ticket));
     assert!(rt; outcome.replies.is_empty());
 }
-
-/// All that waits on the links arrives, which is this many messages.
-pub fn sweeps(rt: &impl Abort, world: &mut World, deliveries: u32) {
-    let all = happens(rt, world, Event::DeliverAll);
-    assert!(rt; all.delivered == Some(deliveries));
-    assert!(rt; all.ticket.is_none() && all.replies.is_empty());
-}
