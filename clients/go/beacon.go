@@ -391,7 +391,13 @@ func dialBeacon(ctx context.Context, bid int, limit time.Duration) (net.Conn, er
 // isThere tells whether who stood with this bid answers within so long, or could not be asked for that long. Where the
 // context is over, nobody knows.
 func isThere(ctx context.Context, bid int, limit time.Duration) bool {
+	isSeen, isAsked := seesBeacon(ctx, bid, limit)
+	return isSeen || !isAsked
+}
+
+// seesBeacon tells whether who stood with this bid answers within so long, and whether it was asked for that long.
+func seesBeacon(ctx context.Context, bid int, limit time.Duration) (isSeen, isAsked bool) {
 	line := strconv.Itoa(bid)
 	answer, isAsked := askBeacon(ctx, bid, line, limit)
-	return answer == line || !isAsked
+	return answer == line, isAsked
 }

@@ -26,7 +26,7 @@ func kindOf(bid int) kind {
 	}
 }
 
-// isThere tells whether who leads so is seen in time. Where nobody is until the context is over, its error.
+// isThere tells whether who leads so is seen in time, or could not be asked. Where nobody is until the context is over, its error.
 func (l *Lock) isThere(ctx context.Context, known Led) (isSeen bool, err error) {
 	switch {
 	case kindOf(known.Leader.Bid) == nobody:
@@ -51,7 +51,8 @@ func (l *Lock) isOtherKind(known Led) bool {
 }
 
 // isOtherThere gives a [WrongRingError] where a leader of the other kind is there, or nothing here tells whether it is. Who
-// is present, has the bid of a beacon and does not answer there is one of an earlier release, across hosts too.
+// is present, has the bid of a beacon and does not answer there is one of an earlier release, across hosts too. Who could not
+// be asked may be there.
 func (l *Lock) isOtherThere(ctx context.Context, known Led) (bool, error) {
 	isSeen, isRefused := false, l.ring.Status == 0
 	if l.ring.Status != 0 {
@@ -62,7 +63,8 @@ func (l *Lock) isOtherThere(ctx context.Context, known Led) (bool, error) {
 	}
 	switch {
 	case l.isAcross() && isOwn(l.ring.Host):
-		isRefused = isThere(ctx, known.Leader.Bid, l.how.Patience)
+		isThere, isAsked := seesBeacon(ctx, known.Leader.Bid, l.how.Patience)
+		isRefused, isSeen = isThere, isSeen || !isAsked
 	case l.isAcross():
 		isRefused = !isSeen
 	default:

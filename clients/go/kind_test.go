@@ -78,6 +78,25 @@ func TestALockAcrossHostsIsNotTakenFromAHolderOnOneHost(t *testing.T) {
 	same(t, lock.Term(), 2)
 }
 
+func TestAHolderOnOneHostThatCouldNotBeAskedIsNotGone(t *testing.T) {
+	leavesNone(t)
+	beacon, err := newBeacon(0, "")
+	must(t, err)
+	defer beacon.close()
+	ring, err := NewRing(7101, 7103)
+	must(t, err)
+	known := Led{1, Leader{1, beacon.bid()}}
+	lock := lockOf(t, ring, LockOptions{AcrossHosts: true, Patience: 200 * time.Millisecond})
+	restore := wanting(t, 600*time.Millisecond)
+	isSeen, err := lock.isOtherThere(background(t), known)
+	restore()
+	must(t, err)
+	same(t, isSeen, true)
+	// Once it may be asked it is seen that it is there.
+	_, err = lock.isOtherThere(background(t), known)
+	as[*WrongRingError](t, err)
+}
+
 func TestAHolderOfAnEarlierReleaseIsSeenAcrossHosts(t *testing.T) {
 	ring, nodes, votes, _ := across(t, otherHost)
 	presence, _ := presenceOf(t, ring, votes)

@@ -16,7 +16,7 @@ from .kinds import Election, Holder, Led, Waiter
 from .pause import Pause
 from .presence import ABSENT, Presence
 from .showing import SHOWERS, Shown
-from .waiting import ENDED, GONE, GRACE, HANDED, KEPT, OVER, Line, ask, holder_of, is_seen
+from .waiting import ENDED, GONE, GRACE, HANDED, KEPT, OVER, Line, answer, ask, holder_of, is_seen
 
 # For so many terms a campaign stands at most, and so long it waits in each, in seconds.
 TERMS, SECONDS = 3, 5.0
@@ -266,32 +266,34 @@ class Locking:
                 line.leave()
 
     async def is_there(self, asks: Asking, known: Led) -> bool:
-        """Whether who leads so is seen in time. `WrongRing` where that is by the other kind of clients."""
+        """Whether who leads so is seen in time, or could not be asked. `WrongRing` where that is by the other kind of
+        clients."""
         bid = known.leader.bid
         if presence.is_nobody(bid):
             return False
         is_present = False
         if self.across or presence.is_across(bid) and asks.status is not None:
             is_present = await presence.is_there(asks, self.group, known, min(self.patience, ABSENT))
-        if is_present or self.across != presence.is_across(bid):
-            await self.require_kind(asks, known, is_present)
-        if self.across:
-            return is_present
-        return await is_seen(asks, bid, self.patience)
+        if self.across != presence.is_across(bid) and await self.is_hidden(asks, known, is_present):
+            return True
+        return is_present if self.across else await is_seen(asks, bid, self.patience)
 
-    async def require_kind(self, asks: Asking, known: Led, is_present: bool) -> None:
-        """`WrongRing` where who leads so is of the other kind, and there, as far as anything tells. Who is present, has
-        the bid of a beacon and does not answer there is one of an earlier release, across hosts too."""
-        bid, how = known.leader.bid, "on one host, and this client is told to hold it across hosts"
-        if self.across:
-            is_wrong = not presence.is_across(bid) and (
-                await is_seen(asks, bid, self.patience) if is_own(asks.host) else not is_present)
+    async def is_hidden(self, asks: Asking, known: Led, is_present: bool) -> bool:
+        """Whether who leads so and is of the other kind could not be asked. `WrongRing` where it is there, as far as anything
+        tells. Who is present, has the bid of a beacon and does not answer there is one of an earlier release, across hosts
+        too."""
+        bid, is_hidden, how = known.leader.bid, False, "on one host, and this client is told to hold it across hosts"
+        if not self.across:
+            is_wrong, how = is_present or asks.status is None, "across hosts, and this client is not told to"
+        elif is_own(asks.host):
+            lines, is_asked = await answer(asks, bid, str(bid), self.patience)
+            is_wrong, is_hidden = lines == [str(bid)], not is_asked
         else:
-            is_wrong = presence.is_across(bid) and (is_present or asks.status is None)
-            how = "across hosts, and this client is not told to"
+            is_wrong = not is_present
         if is_wrong:
             raise WrongRing(f"{self.group}: held {how}, by {in_words(known, None)}: tell all of its clients the same. Where "
                             f"nobody holds it any more, cinoweta raise has it anew")
+        return is_hidden
 
     async def holder(self, asks: Asking, known: Led) -> Holder | None:
         if self.across:

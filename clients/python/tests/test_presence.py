@@ -1,12 +1,14 @@
 """Locks across hosts, beside servers of lines and of the status port that answer as they are told."""
+import errno
 import json
+import socket
 import threading
 import time
 from unittest import mock
 
 from cinoweta import Cancelled, Holder, Leader, Led, Lock, LockTaken, NoAnswer, Refused, Resigned, Ring, WrongRing, holder, status
 from cinoweta import presence
-from cinoweta.beacon import SPREAD
+from cinoweta.beacon import SPREAD, port_of
 from cinoweta.presence import Presence, gives_up_after
 from cinoweta.status import Sight
 from cinoweta.steps import at_once
@@ -286,6 +288,25 @@ class PresenceTest(Beside, BesideStatus):
                 self.assertLess(time.monotonic() - before, 1.0)
             self.until(lambda: not nodes[0].present)
             self.votes.leaders[99] = (1, 7)
+
+    def test_a_holder_of_the_other_kind_that_could_not_be_asked_is_not_gone(self) -> None:
+        ring, _ = self.votes_ring("127.0.0.1")
+        connect = socket.create_connection
+        with self.lock(ring, across_hosts=False) as held:
+            port = port_of(self.votes.leaders[held.term][1])
+
+            def falters(place: tuple[str, int], *words: object) -> socket.socket:
+                if place[1] == port:
+                    raise OSError(errno.EMFILE, "Too many open files")
+                return connect(place, *words)
+
+            with mock.patch("socket.create_connection", side_effect=falters):
+                with self.assertRaises(LockTaken):
+                    self.lock(ring, wait=0.0, patience=0.2).acquire()
+                self.assertIsNotNone(holder(ring, "red", patience=0.2, across_hosts=True))
+            with self.assertRaisesRegex(WrongRing, "held on one host"):
+                self.lock(ring, wait=0.0, patience=0.2).acquire()
+            self.assertFalse(held.is_lost())
 
     def test_it_is_present_before_nodes_retire(self) -> None:
         ring, nodes = self.votes_ring()
