@@ -21,33 +21,28 @@ best() {
     done
 }
 
-# grows TEXT WORK LESS MORE [BASE]: prints how long more of the work takes, without its BASE of as much, and how many times as long that
-# is as less of it.
+# grows TEXT WORK LESS MORE: prints how long more of the work takes, without a start of it, and how many times as long that is as less.
 grows() {
-    local less more
-    best "$2" "$3"; less=$least
-    best "$2" "$4"; more=$least
-    if [ $# -eq 5 ]; then
-        best "$5" "$3"; less=$((less - least))
-        best "$5" "$4"; more=$((more - least))
-    fi
+    local none less more
+    best "$2" 0; none=$least
+    best "$2" "$3"; less=$((least - none))
+    best "$2" "$4"; more=$((least - none))
     awk -v text="$1" -v count="$4" -v times="$(($4 / $3))" -v less="$less" -v more="$more" \
-        'BEGIN { printf "%d %s: %.2f ms; %d times as much: %.1f times as long\n", count, text, more / 1e6, times, more / less }'
+        'BEGIN { printf "%d %s: %.1f ms; %d times as much: %.1f times as long\n", count, text, more / 1e6, times, more / less }'
 }
 
-# each TEXT WORK COUNT: prints the time of one, less that of none.
+# each TEXT WORK COUNT: prints the time of one of so many.
 each() {
     local none
     best "$2" 0; none=$least
     best "$2" "$3"
-    awk -v text="$1" -v none="$none" -v all="$least" -v count="$3" \
-        'BEGIN { printf "%s: %.2f ms each\n", text, (all - none) / count / 1e6 }'
+    awk -v text="$1" -v none="$none" -v all="$least" -v count="$3" 'BEGIN { printf "%s: %.3f ms\n", text, (all - none) / count / 1e6 }'
 }
 
 grows "lines of a script" mixed 29000 58000
 echo "of these $(grep -c ': stood' "$room/out") stood, $(grep -c ': taken' "$room/out") were taken, $(grep -c 'no ' "$room/out") refused"
-grows "elections" elect 300 3000
-grows "elections audited" audit 300 3000 elect
-grows "terms given up at once" retire 300 3000 elect
+grows "elections" elect 1000 3000
+each "an audit of 3,000 elections" audit 20
+each "a Retire of one of 3,000 terms" retire 2999
 each "a node of 3,000 elections opened again" recover 100
 each "a checkpoint of such a node" checkpoint 100

@@ -3,10 +3,13 @@
 #   mixed       lines over 997 groups on a ring of 16: at each node in turn a stand, the delivery of the next message of its
 #               link, and a question
 #   elect       elections of one group on a ring of three, 3,072 at most, by each node in turn
-#   audit       the same, and an audit
-#   retire      the same, and node 1 gives up all terms but the last
-#   recover     3,000 elections, and so many crashes of node 1
-#   checkpoint  the same, and so many checkpoints
+#
+# and, behind 3,000 of these elections, so many
+#
+#   audit       audits of what the three nodes did
+#   retire      Retires of node 1, each of one term more, 2,999 at most
+#   recover     crashes of node 1
+#   checkpoint  checkpoints of it
 function elect(terms, term) {
     print "ring 3 eager 1048576"
     for (term = 1; term <= terms; term++) {
@@ -39,18 +42,17 @@ function mixed(line, turn, node, group, term) {
 BEGIN {
     if (work == "mixed")
         mixed()
-    else if (work == "elect" || work == "audit" || work == "retire")
-        elect(count)
-    else if (work == "recover" || work == "checkpoint")
-        elect(3000)
     else
-        exit 2
+        elect(work == "elect" ? count : 3000)
     if (work == "audit")
-        print "audit"
-    if (work == "retire")
-        print "retire 1 red", count
-    if (work == "recover")
+        repeat("audit")
+    else if (work == "retire")
+        for (term = 2; term <= count + 1; term++)
+            print "retire 1 red", term
+    else if (work == "recover")
         repeat("crash 1")
-    if (work == "checkpoint")
+    else if (work == "checkpoint")
         repeat("checkpoint 1")
+    else if (work != "mixed" && work != "elect")
+        exit 2
 }
