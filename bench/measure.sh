@@ -43,6 +43,5 @@ grows "lines of a script" mixed 29000 58000
 echo "of these $(grep -c ': stood' "$room/out") stood, $(grep -c ': taken' "$room/out") were taken, $(grep -c 'no ' "$room/out") refused"
 grows "elections" elect 1000 3000
 each "an audit of 3,000 elections" audit 20
-each "a Retire of one of 3,000 terms" retire 2999
 each "a node of 3,000 elections opened again" recover 100
 each "a checkpoint of such a node" checkpoint 100

@@ -7,7 +7,6 @@
 # and, behind 3,000 of these elections, so many
 #
 #   audit       audits of what the three nodes did
-#   retire      Retires of node 1, each of one term more, 2,999 at most
 #   recover     crashes of node 1
 #   checkpoint  checkpoints of it
 function elect(terms, term) {
@@ -46,9 +45,6 @@ BEGIN {
         elect(work == "elect" ? count : 3000)
     if (work == "audit")
         repeat("audit")
-    else if (work == "retire")
-        for (term = 2; term <= count + 1; term++)
-            print "retire 1 red", term
     else if (work == "recover")
         repeat("crash 1")
     else if (work == "checkpoint")

@@ -63,8 +63,8 @@ func (l *Lock) isOtherThere(ctx context.Context, known Led) (bool, error) {
 	}
 	switch {
 	case l.isAcross() && isOwn(l.ring.Host):
-		isThere, isAsked := seesBeacon(ctx, known.Leader.Bid, l.how.Patience)
-		isRefused, isSeen = isThere, isSeen || !isAsked
+		answers, isAsked := seesBeacon(ctx, known.Leader.Bid, l.how.Patience)
+		isRefused, isSeen = answers, isSeen || !isAsked
 	case l.isAcross():
 		isRefused = !isSeen
 	default:
