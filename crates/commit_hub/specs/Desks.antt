@@ -3,8 +3,9 @@ use Rattle.std.specs.Prelude.{ℕ, ◌+◌, Bool, not, ◌||◌, ◌&&◌, nat_e
 use Rattle.std.specs.Option.{option_map}
 use Rattle.ring_records.specs.declared.base.Base.{Base}
 use Rattle.ring_records.specs.States.{flying_in}
-use Rattle.gated_journal.specs.Batch.{Numbered, numbered_with}
+use Rattle.gated_journal.specs.Batch.{Numbered}
 use Rattle.group_commit.specs.Desk.{DeskKept}
+use Rattle.group_commit.specs.DeskCalls.{flown_with}
 use Rattle.group_commit.specs.Next.{is_to_make_room}
 use Rattle.commit_hub.specs.Over.{is_over}
 
@@ -28,4 +29,4 @@ is_done desk = desk.view.closed && not (has_waiting desk)
 
 -- its inputs that fly, with the length of the snapshot where they do as a checkpoint
 abbrev pub flying_part : DeskKept → Numbered
-flying_part desk = numbered_with desk.view.member.node (desk.opening.inputs + desk.view.state.durable) (flying_in desk.view.state) (option_map (λ (b : Base). b.bytes) desk.view.state.checkpoint)
+flying_part desk = flown_with desk (flying_in desk.view.state) (option_map (λ (b : Base). b.bytes) desk.view.state.checkpoint)

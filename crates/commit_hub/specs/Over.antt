@@ -1,13 +1,9 @@
 -- When the desk of a hub takes no requests, and when nothing is launched.
 use Rattle.std.specs.Prelude.{Bool, ◌||◌, nat_lt, if◌then◌else◌, length, Option, Some, None, is_some}
-use Rattle.group_commit.specs.Desk.{DeskKept}
+pub use Rattle.group_commit.specs.Ending.{is_over}
 use Rattle.ring_records.specs.declared.refusal.Refusal.{Refusal}
 use Rattle.ring_records.specs.declared.refusal.Refusal.TheVariants as refused
 use Rattle.gated_journal.specs.Batch.{Numbered}
-
--- it takes no requests: it is closed or has failed
-abbrev pub is_over : DeskKept → Bool
-is_over desk = desk.view.closed || desk.view.failed
 
 -- something flies
 abbrev pub flies : Numbered → Bool

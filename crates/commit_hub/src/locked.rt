@@ -1,7 +1,6 @@
 //! What lies under a hub's lock: its desk, the book of its ledger, and what its tie knows too.
 ghost use Rattle.std.specs.Prelude.{◌≡◌, ◌↔◌, ◌+◌, ◌-◌, ◌≤◌, ◌<◌, ◌⊎◌, ◌&&◌, List, IsTrue, true, false, length, Some, None, IfOk, IfErr, IfNone, MatchOption, OnOk, OnErr};
 ghost use Rattle.ring_records.specs.declared.input.Input.{Input};
-ghost use Rattle.ring_records.specs.Answer.{Answered};
 ghost use Rattle.ring_records.specs.States.{durable_in};
 ghost use Rattle.ring_records.specs.Lawful.{IsNodeState};
 ghost use Rattle.ring_records.specs.Props.{IsNodeState-prop};
@@ -13,6 +12,7 @@ ghost use Rattle.group_commit.specs.Launching.{launch_objection, launched_next, 
 ghost use Rattle.node_core.specs.Core.{IsNodeOf};
 ghost use Rattle.group_commit.specs.Next.{durable_part};
 ghost use Rattle.group_commit.specs.Past.{IsPast};
+ghost use Rattle.group_commit.specs.Ending.{IsEnded};
 ghost use Rattle.group_commit.specs.Ticket.{shown};
 ghost use Rattle.commit_hub.specs.Desks.{flying_part, is_done, is_resting};
 ghost use Rattle.commit_hub.specs.Over.{is_over};
@@ -210,12 +210,7 @@ impl<A: NodeLedger> Locked<A> {
 
     /// As on the desk, which may take requests; the ticket ends in every case.
     pub(crate) fn forfeit(&mut self, ticket: Ticket) -> Result<(), Refusal>
-        ensures over { OnOk result (is_over self.old.shared.desk ≡ true) }
-        ensures here { OnOk result ((kept : Answered) × IsHere self.old.shared.desk.view (shown ticket) kept) }
-        ensures next { OnOk result (self.new.shared.desk ≡ record self.old.shared.desk { view = ended (shown ticket).own self.old.shared.desk.view }) }
-        ensures foreign { IfErr result (λ e. e ≡ Refusal.Foreign) }
-        ensures gone { OnErr result (is_over self.old.shared.desk ≡ true → (kept : Answered) → IsHere self.old.shared.desk.view (shown ticket) kept → ⊥) }
-        ensures same { OnErr result (self.new.shared.desk ≡ self.old.shared.desk) }
+        ensures { IsEnded self.old.shared.desk self.new.shared.desk ticket result }
     {
         self.shared.forfeit(ticket)
     }

@@ -1,10 +1,11 @@
 -- What further calls make of a desk, and what of it flies.
-use Rattle.std.specs.Prelude.{◌≡◌, ◌+◌, if◌then◌else◌, [], ◌∷◌, ◌++◌, is_none, ℕ}
+use Rattle.std.specs.Prelude.{◌≡◌, ◌+◌, if◌then◌else◌, List, [], ◌∷◌, ◌++◌, Option, is_none, ℕ}
 use Rattle.std.specs.Option.{option_map}
+use Rattle.ring_records.specs.declared.input.Input.{Input}
 use Rattle.ring_records.specs.declared.request.Request.{Request}
 use Rattle.ring_records.specs.Launching as launching
 use Rattle.ring_records.specs.States.{flying_in}
-use Rattle.gated_journal.specs.Batch.{Numbered}
+use Rattle.gated_journal.specs.Batch.{Numbered, numbered_with}
 use Rattle.group_commit.specs.Ticket.{TicketView, ticket_with}
 use Rattle.group_commit.specs.Desk.{DeskView, DeskKept, answered}
 use Rattle.ring_records.specs.declared.reply.Reply.{Reply}
@@ -25,6 +26,14 @@ submitted q desk = record desk {
 -- it let go of the inputs that the area in use stands for, unless a checkpoint flies
 abbrev pub let_go : DeskKept → DeskKept
 let_go desk = record desk { gone = if is_none desk.view.state.checkpoint then desk.view.state.base.inputs else desk.gone }
+
+-- no more became of it than that other inputs are durable or fly, or that it failed
+abbrev pub HasFlown : DeskKept → DeskKept → Type 0
+HasFlown old new = new ≡ record old { view = record old.view { state = new.view.state; failed = new.view.failed } }
+
+-- these inputs, numbered in the whole history behind what is durable, as a batch, or as a checkpoint with a snapshot of this length
+abbrev pub flown_with : DeskKept → List Input → Option ℕ → Numbered
+flown_with desk inputs snapshot = numbered_with desk.view.member.node (desk.opening.inputs + desk.view.state.durable) inputs snapshot
 
 -- these are the node's inputs that fly, numbered in the whole history, as a batch, or as a checkpoint with a snapshot of
 -- this length

@@ -12,8 +12,8 @@ use Rattle.group_commit.specs.Opening.{waits_for_area}
 use Rattle.group_commit.specs.Desk.{DeskView, DeskKept, known_all, launched}
 use Rattle.std.specs.Option.{option_map}
 use Rattle.gated_journal.specs.declared.work.Work.{Work}
-use Rattle.gated_journal.specs.Batch.{numbered_with}
 use Rattle.gated_journal.specs.Works.{flown_by, summary_by}
+use Rattle.group_commit.specs.DeskCalls.{flown_with}
 use Rattle.group_commit.specs.Next.{durable_part, IsNext, is_to_make_room}
 
 -- what the area behind the one in use stands for, where it begins with the summary of all that the node accepted
@@ -70,7 +70,7 @@ launched_next is_wanted desk = record desk { view = if is_checkpoint_next is_wan
 -- These are all the inputs that wait, with the summary of all; or the first that wait, one at least, where that is not next.
 pub record IsWorkOf (is_wanted : Bool) (old new : DeskKept) (work : Work) : Type 0 where
   pub summary : summary_by work ≡ (if is_checkpoint_next is_wanted old then Some (known_all old) else None)
-  pub flown : flown_by work ≡ numbered_with old.view.member.node (old.opening.inputs + old.view.state.durable) (flying_in new.view.state) (option_map (snapshot_len newest) (summary_by work))
+  pub flown : flown_by work ≡ flown_with old (flying_in new.view.state) (option_map (snapshot_len newest) (summary_by work))
   pub some : summary_by work ≡ None → old.view.state.durable < length old.view.state.inputs
 
 -- Nothing waits, and no checkpoint is next.

@@ -3,6 +3,7 @@ pub mod Content
 pub mod CoreOf
 pub mod Desk
 pub mod DeskCalls
+pub mod Ending
 pub mod Inputs
 pub mod Kept
 pub mod Launching

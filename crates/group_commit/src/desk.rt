@@ -1,5 +1,5 @@
 //! A node's inputs: which of them are durable, which fly, and the replies that wait for them.
-ghost use Rattle.std.specs.Prelude.{◌≡◌, ◌+◌, ◌++◌, ◌≤◌, ◌⊎◌, ◌||◌, List, [], not, true, Some, None, length, drop, MatchOption, IfOk, IfErr, OnOk, OnErr};
+ghost use Rattle.std.specs.Prelude.{◌≡◌, ◌+◌, ◌++◌, ◌⊎◌, ◌||◌, List, [], not, true, Some, None, length, drop, MatchOption, IfOk, IfErr, OnOk, OnErr};
 ghost use Rattle.std.specs.List.{cons_option};
 ghost use Rattle.ring_records.specs.declared.input.Input.{Input};
 ghost use Rattle.ring_records.specs.Lawful.{IsLawful, IsNodeState, IsLawfulState};
@@ -84,10 +84,11 @@ impl Model for Desk {
 }
 
 impl Desk {
-    ghost use Rattle.group_commit.specs.Desk.{DeskKept, new_desk, core_of, seen, ended, objection, IsSubmitted, IsAnswer, IsHere, IsSealed};
+    ghost use Rattle.group_commit.specs.Desk.{DeskKept, new_desk, core_of, seen, objection, IsSubmitted, IsHere};
     ghost use Rattle.group_commit.specs.Opening.{IsKnownLawful, IsUnlawful};
     ghost use Rattle.group_commit.specs.Past.{IsPast};
     ghost use Rattle.gated_journal.specs.Opened.{reading_of_opening};
+    ghost use Rattle.group_commit.specs.Ending.{is_over, IsRedeemed, IsForfeited};
     ghost use Rattle.group_commit.specs.Ticket.{shown};
     ghost use Rattle.group_commit.specs.DeskCalls.{answered_with};
 
@@ -197,14 +198,7 @@ impl Desk {
     /// 10 where no such ticket is open here; where an input that the reply rests on is not durable yet, as 9 on a desk
     /// that has failed and else as 11. Then the ticket comes back.
     pub fn redeem(&mut self, ticket: Ticket) -> Result<(Reply, Stub), (Ticket, Refusal)>
-        ensures released { IfOk result (λ r. IsHere self.old.view (shown ticket) r.1) }
-        ensures reply { IfOk result (λ r. r.0 ≡ r.1.answer.reply) }
-        ensures durable { IfOk result (λ r. r.1.answer.number ≤ self.old.opening.inputs + self.old.view.state.durable) }
-        ensures answer { IfOk result (λ r. (past : List Input) → IsPast self.old.view.member self.old.opening past → IsAnswer self.old.view.member past (durable_in self.old.view.state) r.1) }
-        ensures next { OnOk result (self.new ≡ record self.old { view = ended (shown ticket).own self.old.view }) }
-        ensures refusal { IfErr result (λ e. IsSealed self.old (shown ticket) e.1) }
-        ensures back { IfErr result (λ e. shown e.0 ≡ shown ticket) }
-        ensures same { OnErr result (self.new ≡ self.old) }
+        ensures { IsRedeemed self.old self.new ticket result }
     {
         let Some((reply, number)) = self.found(&ticket) else {
             return Err((ticket, Refusal::Foreign));
@@ -239,12 +233,8 @@ impl Desk {
     /// Ends a ticket with no reply, on a desk that is closed or has failed. Refused as 10 where no such ticket is open
     /// here, and the ticket comes back.
     pub fn forfeit(&mut self, ticket: Ticket) -> Result<(), (Ticket, Refusal)>
-        requires over { (self.old.view.closed || self.old.view.failed) ≡ true }
-        ensures here { OnOk result ((kept : Answered) × IsHere self.old.view (shown ticket) kept) }
-        ensures next { OnOk result (self.new ≡ record self.old { view = ended (shown ticket).own self.old.view }) }
-        ensures foreign { IfErr result (λ e. (e.1 ≡ Refusal.Foreign) × ((kept : Answered) → IsHere self.old.view (shown ticket) kept → ⊥)) }
-        ensures back { IfErr result (λ e. shown e.0 ≡ shown ticket) }
-        ensures same { OnErr result (self.new ≡ self.old) }
+        requires over { is_over self.old ≡ true }
+        ensures { IsForfeited self.old self.new ticket result }
     {
         if self.found(&ticket).is_none() {
             return Err((ticket, Refusal::Foreign));

@@ -1,7 +1,5 @@
 //! What a node answers to a request, by its core.
-ghost use Rattle.std.specs.Prelude.{◌≡◌, [], None, IfSome};
-ghost use Rattle.std.specs.List.{cons_option};
-ghost use Rattle.ring_records.specs.Answer.{unless, if_free};
+ghost use Rattle.std.specs.Prelude.{◌≡◌, None, IfSome};
 ghost use Rattle.node_core.specs.Core.{Refuses};
 ghost use Rattle.group_commit.specs.Replying.{IsWeighed, Replies, who_reply};
 ghost use Rattle.group_commit.specs.Vouch.{acceptance};

@@ -1,7 +1,5 @@
 // What a node may release, and what waits until it may be.
 ghost use Rattle.std.specs.Prelude.{◌≡◌, ◌+◌, ◌^◌, ◌++◌, ◌∷◌, ◌<◌, ℕ, List, [], take, length, None, IfOk, OnOk, OnErr};
-ghost use Rattle.std.specs.List.{cons_option};
-ghost use Rattle.std.specs.VecDeque.{deque_len, deque_capacity};
 ghost use Rattle.ring_records.specs.declared.input.Input.{Input};
 ghost use Rattle.ring_records.specs.declared.summary.Summary.{Summary};
 ghost use Rattle.ring_records.specs.Known.{Objects, stepped, after};

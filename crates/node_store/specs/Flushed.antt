@@ -12,6 +12,7 @@ use Rattle.gated_journal.specs.Reading.{Reading, device_size}
 use Rattle.gated_journal.specs.Unread.{IsFault}
 use Rattle.group_commit.specs.declared.landed.Landed.{Landed}
 use Rattle.group_commit.specs.Desk.{DeskView, landed, seen}
+use Rattle.group_commit.specs.DeskCalls.{HasFlown}
 use Rattle.group_commit.specs.Past.{IsPast}
 use Rattle.node_store.specs.declared.node.Node.{Node}
 use Rattle.node_store.specs.Node.{desk_of, device_of, member_of, state_of}
@@ -51,6 +52,6 @@ module _ {D : Type 0} {g : Ghosts D} where
     pub in_reach : Reaches (g.reach (device_of old)) (device_size (member_of old).capacity) → IfErr result IsUnbegun
     pub any_moment : OnOk result (LeavesOnly g.clock g.left_since (device_of old) (device_of new) (MayBeLeft (record (desk_of old) { view = flown })))
     pub any_moment_err : OnErr result (LeavesOnly g.clock g.left_since (device_of old) (device_of new) (MayBeLeft (desk_of new)))
-    pub stays : desk_of new ≡ record (desk_of old) { view = record (desk_of old).view { state = state_of new; failed = (desk_of new).view.failed } }
+    pub stays : HasFlown (desk_of old) (desk_of new)
     pub device : OnOk result (g.count (device_of new) ≡ g.count (device_of old))
     pub reach : g.reach (device_of new) ≡ g.reach (device_of old)

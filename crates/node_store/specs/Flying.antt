@@ -8,6 +8,7 @@ use Rattle.group_commit.specs.Launching.{launched_all, needs_checkpoint, next_ar
 use Rattle.ring_records.specs.declared.input.Input.{Input}
 use Rattle.ring_records.specs.Admission.{costs_of}
 use Rattle.ring_records.specs.Lawful.{IsNodeState, IsLawfulState}
+use Rattle.ring_records.specs.States.{opened}
 use Rattle.gated_journal.specs.declared.journal.Journal.{Journal}
 use Rattle.gated_journal.specs.Areas.{AllReadAs}
 use Rattle.gated_journal.specs.Journal.{device_of, member_of, len_of, room_of, layout_of, epoch_of, is_spoiled}
@@ -29,6 +30,10 @@ flown_next desk = record desk { view = next_flight desk }
 -- the area in use once nothing waits, where one input waits at most: the next one, where that input needs it
 abbrev pub settled_base : DeskKept → Base
 settled_base desk = if nat_lt desk.view.state.durable (length desk.view.state.inputs) && needs_checkpoint desk then next_area desk else desk.view.state.base
+
+-- once nothing waits, where one input waits at most
+abbrev pub settled : DeskKept → DeskKept
+settled desk = record desk { view = record desk.view { state = opened (settled_base desk) desk.view.state.inputs } }
 
 module _ {D : Type 0} {g : Ghosts D} where
   -- The work flies of a desk that has not failed, in a lawful state. The journal holds what is durable, and takes the work;

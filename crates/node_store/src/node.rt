@@ -2,11 +2,9 @@ ghost use Rattle.std.specs.Prelude.{◌≡◌, ◌+◌, ◌-◌, ◌⊎◌, ◌|
 ghost use Rattle.disk_model.specs.Disk.{MayLeave, LeavesOnly, Reaches, synced};
 ghost use Rattle.ring_records.specs.declared.input.Input.{Input};
 ghost use Rattle.ring_records.specs.Admission.{newest, used};
-ghost use Rattle.ring_records.specs.Answer.{Answered};
 ghost use Rattle.ring_records.specs.Member.{member};
-ghost use Rattle.ring_records.specs.Release.{packets, notices};
 ghost use Rattle.ring_records.specs.Snapshot.{IsSound};
-ghost use Rattle.ring_records.specs.States.{NodeState, durable_in, flying_in, left_by};
+ghost use Rattle.ring_records.specs.States.{NodeState, durable_in, left_by};
 ghost use Rattle.ring_records.specs.Lawful.{IsNodeState, IsLawfulState};
 ghost use Rattle.ring_records.specs.Summary.{empty};
 ghost use Rattle.gated_journal.specs.Areas.{ReadsAs, AllReadAs};
@@ -14,7 +12,8 @@ ghost use Rattle.gated_journal.specs.Journal as journals;
 ghost use Rattle.gated_journal.specs.Reading.{device_size, fresh_area, is_header};
 ghost use Rattle.gated_journal.specs.Unread.{IsFault, IsUnread};
 ghost use Rattle.node_core.specs.Core.{IsNodeOf};
-ghost use Rattle.group_commit.specs.Desk.{new_desk, core_of, seen, ended, launched, landed, objection, IsAnswer, IsHere, IsSealed, IsSubmitted};
+ghost use Rattle.group_commit.specs.Desk.{new_desk, core_of, seen, objection, IsSubmitted};
+ghost use Rattle.group_commit.specs.Ending.{is_over, IsRedeemed, IsForfeited};
 ghost use Rattle.group_commit.specs.Opening.{IsKnownLawful};
 ghost use Rattle.group_commit.specs.Past.{IsPast};
 ghost use Rattle.node_store.specs.Props.{Stands-prop};
@@ -172,14 +171,7 @@ impl<D: Device> Node<D> {
     /// 10 where no such ticket is open here; where an input that the reply rests on is not durable yet, as 9 on a node
     /// that has failed and else as 11. Then the ticket comes back.
     pub fn redeem(&mut self, ticket: Ticket) -> Result<(Reply, Stub), (Ticket, Refusal)>
-        ensures released { IfOk result (λ r. IsHere (desk_of self.old).view (shown ticket) r.1) }
-        ensures reply { IfOk result (λ r. r.0 ≡ r.1.answer.reply) }
-        ensures durable { IfOk result (λ r. r.1.answer.number ≤ (desk_of self.old).opening.inputs + (state_of self.old).durable) }
-        ensures answer { IfOk result (λ r. (past : List Input) → IsPast (member_of self.old) (desk_of self.old).opening past → IsAnswer (member_of self.old) past (durable_in (state_of self.old)) r.1) }
-        ensures next { OnOk result (desk_of self.new ≡ record (desk_of self.old) { view = ended (shown ticket).own (desk_of self.old).view }) }
-        ensures refusal { IfErr result (λ e. IsSealed (desk_of self.old) (shown ticket) e.1) }
-        ensures back { IfErr result (λ e. shown e.0 ≡ shown ticket) }
-        ensures same { OnErr result (desk_of self.new ≡ desk_of self.old) }
+        ensures redeemed { IsRedeemed (desk_of self.old) (desk_of self.new) ticket result }
         ensures device { device_of self.new ≡ device_of self.old }
     {
         self.desk.redeem(ticket)
@@ -188,12 +180,8 @@ impl<D: Device> Node<D> {
     /// Ends a ticket with no reply, on a node that is closed or has failed. Refused as 10 where no such ticket is open
     /// here, and the ticket comes back.
     pub fn forfeit(&mut self, ticket: Ticket) -> Result<(), (Ticket, Refusal)>
-        requires over { ((desk_of self.old).view.closed || (desk_of self.old).view.failed) ≡ true }
-        ensures here { OnOk result ((kept : Answered) × IsHere (desk_of self.old).view (shown ticket) kept) }
-        ensures next { OnOk result (desk_of self.new ≡ record (desk_of self.old) { view = ended (shown ticket).own (desk_of self.old).view }) }
-        ensures foreign { IfErr result (λ e. (e.1 ≡ Refusal.Foreign) × ((kept : Answered) → IsHere (desk_of self.old).view (shown ticket) kept → ⊥)) }
-        ensures back { IfErr result (λ e. shown e.0 ≡ shown ticket) }
-        ensures same { OnErr result (desk_of self.new ≡ desk_of self.old) }
+        requires over { is_over (desk_of self.old) ≡ true }
+        ensures forfeited { IsForfeited (desk_of self.old) (desk_of self.new) ticket result }
         ensures device { device_of self.new ≡ device_of self.old }
     {
         self.desk.forfeit(ticket)

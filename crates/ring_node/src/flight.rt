@@ -1,5 +1,5 @@
 // What a node makes durable at once: a batch, or a checkpoint.
-ghost use Rattle.std.specs.Prelude.{◌≡◌, ◌-◌, ◌*◌, ◌≤◌, ℕ, List, true, None, length, IfOk, IfErr, OnOk, OnErr};
+ghost use Rattle.std.specs.Prelude.{◌≡◌, ◌-◌, ◌*◌, ◌≤◌, List, true, None, length, IfOk, IfErr, OnOk, OnErr};
 ghost use Rattle.disk_model.specs.Disk.{Reaches};
 ghost use Rattle.ring_records.specs.declared.input.Input.{Input};
 ghost use Rattle.ring_records.specs.Admission.{newest};
@@ -7,6 +7,7 @@ ghost use Rattle.ring_records.specs.Release.{packets};
 ghost use Rattle.ring_records.specs.States.{durable_in, flying_in};
 ghost use Rattle.gated_journal.specs.Reading.{device_size};
 ghost use Rattle.group_commit.specs.Desk.{landed, seen};
+ghost use Rattle.group_commit.specs.DeskCalls.{HasFlown};
 ghost use Rattle.group_commit.specs.Past.{IsPast};
 ghost use Rattle.node_store.specs.Node as nodes;
 ghost use Rattle.ring_node.specs.Held.{reach_of, MayBegin, MayFly, launched_by};
@@ -69,7 +70,7 @@ pub(crate) fn launch(node: &mut Node<Disk>, flight: Flight) -> Result<Landed, Re
         ≡ record (nodes.desk_of node.old) { view = record (launched_by flight (nodes.desk_of node.old)) { failed = true } }) }
     ensures same { IfErr result (λ why. why ≡ Refusal.OutOfMemory → (nodes.desk_of node.new ≡ nodes.desk_of node.old) × (nodes.device_of node.new ≡ nodes.device_of node.old)) }
     ensures in_reach { Reaches (reach_of (nodes.device_of node.old)) (device_size (nodes.member_of node.old).capacity) → IfErr result (λ why. why ≡ Refusal.OutOfMemory) }
-    ensures stays { nodes.desk_of node.new ≡ record (nodes.desk_of node.old) { view = record (nodes.desk_of node.old).view { state = nodes.state_of node.new; failed = (nodes.desk_of node.new).view.failed } } }
+    ensures stays { HasFlown (nodes.desk_of node.old) (nodes.desk_of node.new) }
     ensures reach { reach_of (nodes.device_of node.new) ≡ reach_of (nodes.device_of node.old) }
 {
     match flight {

@@ -1,5 +1,5 @@
 //! What helps to find a fault of settings.
-ghost use Rattle.std.specs.Prelude.{◌≡◌, ◌+◌, ◌≤◌, ◌==◌, ℕ, None, false, IfSome, count_by, length, string_bytes};
+ghost use Rattle.std.specs.Prelude.{◌≡◌, ◌+◌, ◌≤◌, ◌==◌, None, false, IfSome, count_by, length, string_bytes};
 ghost use Rattle.toml.specs.Parse.{parse_document};
 ghost use Rattle.ring_service.specs.Settings.{is_setting};
 ghost use Rattle.ring_service.specs.Words.{IsIn};

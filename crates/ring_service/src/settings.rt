@@ -1,12 +1,12 @@
 //! The settings of a ring, read from an untyped table.
-ghost use Rattle.std.specs.Prelude.{◌≡◌, ◌+◌, ◌≤◌, ◌⊎◌, Ok, Err, Some, None, IfOk, IfErr, IfSome, IfNone, IsTrue, option_map, ok_or, codes, string_bytes};
+ghost use Rattle.std.specs.Prelude.{◌≡◌, ◌+◌, ◌≤◌, ◌⊎◌, Ok, Err, Some, None, IfOk, IfErr, IfSome, option_map, string_bytes};
 ghost use Rattle.std.specs.List.{list_all};
 ghost use Rattle.std.specs.BTreeMap.{keys};
 ghost use Rattle.ring_records.specs.declared.limits.TheConstants.{GREATEST_CAPACITY, LEAST_CAPACITY};
 ghost use Rattle.toml.specs.Parse.{parse_document};
 ghost use Rattle.toml.specs.Data.{get_member};
 ghost use Rattle.toml.specs.View.{view, table_view};
-ghost use Rattle.ring_service.specs.Settings.{Read, setting_text, told_by, settings_in, number_of, number_in, path_of, path_in, capacity_in, in_range, is_path, is_printed, is_setting, knows_all};
+ghost use Rattle.ring_service.specs.Settings.{setting_text, told_by, settings_in, number_of, number_in, path_in, capacity_in, in_range, is_path, is_printed, is_setting, knows_all};
 
 use crate::start_fault::{Setting, StartFault};
 use ring_records::{GREATEST_CAPACITY, LEAST_CAPACITY};

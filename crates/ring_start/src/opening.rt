@@ -1,5 +1,5 @@
 //! The nodes of a ring, from their files to what may be served.
-ghost use Rattle.std.specs.Prelude.{◌≡◌, ◌≤◌, length, IfOk};
+ghost use Rattle.std.specs.Prelude.{◌≡◌, length, IfOk};
 ghost use Rattle.ring_start.specs.Fits.{found_as, IsInOrder, Fits};
 ghost use Rattle.ring_start.specs.Written.{ready_as, AreReady};
 

@@ -1,5 +1,6 @@
 // Events of which a growth is refused: what they leave, and the course that begins again.
-use crate::worlds::{answers, is_refused, is_sealed, node, submit};
+use crate::rows::node;
+use crate::worlds::{answers, is_refused, is_sealed, submit};
 use disk_model::Tear;
 use ring_records::{Refusal, Shown};
 use ring_world::{Event, Outcome, World};

@@ -1,5 +1,6 @@
 // What the nodes of a ring hold durably, where a growth is refused.
-use crate::worlds::{node, submit};
+use crate::rows::node;
+use crate::worlds::submit;
 use ring_records::{Input, Refusal};
 use ring_world::{Event, World};
 use std::alloc::Global;

@@ -6,6 +6,7 @@ ghost use Rattle.gated_journal.specs.Batch.{base_by};
 ghost use Rattle.gated_journal.specs.Journal.{member_of};
 
 use crate::devices::{self, memory_device, reads};
+use crate::rows::inputs;
 use disk_model::{Device, FuseDevice, MemDevice, Tear};
 use gated_journal::{Batch, Checkpoint, Journal, Opening, Receipt, Spoiled, device_size};
 use ring_records::{Input, LAYOUT, NodeNo, Refusal, Summary, read_summary, summary_len};
@@ -59,18 +60,6 @@ static SECOND_AREA: [u8; 84] = SECOND;
 const STOOD: Op = Op::Stand("red", 5, 10);
 
 const ACKED: Op = Op::Acked(1);
-
-fn input(rt: &impl Abort, op: Op) -> Input {
-    op.input().expect(rt, "an input")
-}
-
-fn inputs<R: Abort + AllocGlobal>(rt: &R, ops: &[Op]) -> Vec<Input> {
-    let mut inputs = Vec::new(rt.alloc());
-    for op in ops {
-        inputs.push(input(rt, *op)).expect(rt, "ample memory");
-    }
-    inputs
-}
 
 /// The device has these bytes at these offsets.
 fn holds<D: Device, R: Abort + AllocGlobal>(rt: &R, device: &mut D, parts: &[(u64, &[u8])]) {
@@ -295,7 +284,7 @@ fn does<D: Device, R: Abort + AllocGlobal>(rt: &R, journal: &mut Journal<D>, ste
 fn lasts<D: Device, R: Abort + AllocGlobal>(rt: &R, journal: &mut Journal<D>, ops: &[Op]) -> bool
     ensures { member_of journal.new ≡ member_of journal.old }
 {
-    let inputs = inputs(rt, ops);
+    let inputs = inputs(rt, rt.alloc(), ops);
     let done = commits(rt, journal, &inputs);
     drop(inputs);
     done
@@ -311,7 +300,7 @@ fn is_renewed<D: Device, R: Abort + AllocGlobal>(
     requires { (member_of journal.old).n ≡ 3 }
     ensures { member_of journal.new ≡ member_of journal.old }
 {
-    let inputs = inputs(rt, ops);
+    let inputs = inputs(rt, rt.alloc(), ops);
     let done = takes_checkpoint(rt, journal, &inputs, snapshot_in(rt, area));
     drop(inputs);
     done
@@ -374,7 +363,7 @@ fn opens_with<R: Abort + AllocGlobal>(
 
 /// These inputs are those of the row.
 fn are_inputs<R: Abort + AllocGlobal>(rt: &R, found: &[Input], ops: &[Op]) {
-    let wanted = inputs(rt, ops);
+    let wanted = inputs(rt, rt.alloc(), ops);
     assert!(rt; found == wanted.as_slice());
     drop(wanted);
 }

@@ -36,4 +36,6 @@ mod stops;
 #[cfg(test)]
 mod store;
 #[cfg(test)]
+mod streams;
+#[cfg(test)]
 mod worlds;

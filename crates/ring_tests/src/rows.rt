@@ -37,6 +37,18 @@ pub fn input(rt: &impl Abort, op: Op) -> Input {
     op.input().expect(rt, "an input")
 }
 
+/// The inputs in their order. Where the first growth is refused it is asked again.
+pub fn inputs(rt: &impl Abort, alloc: Global, ops: &[Op]) -> Vec<Input> {
+    let mut inputs = Vec::new(alloc);
+    if inputs.reserve(ops.len()).is_err() {
+        inputs.reserve(ops.len()).expect(rt, "ample memory");
+    }
+    for op in ops {
+        inputs.push(input(rt, *op)).expect(rt, "ample memory");
+    }
+    inputs
+}
+
 /// The refusal for this cause, or none.
 pub fn refusal(rt: &impl Abort, cause: Option<Cause>) -> Option<Refusal> {
     match cause {

@@ -1,5 +1,6 @@
 // Tickets that wait for a flush.
-use crate::worlds::{asks, happens, is_sealed, node, ring};
+use crate::rows::node;
+use crate::worlds::{asks, happens, is_sealed, ring};
 use ring_records::Reply;
 use ring_world::{Event, World};
 use std::process::Abort;

@@ -1,14 +1,10 @@
 // Events of a world, in plain numbers, and what they bring.
-use ring_records::{NodeNo, Refusal};
+use crate::rows::node;
+use ring_records::Refusal;
 use ring_world::{Event, Outcome, World};
 use std::alloc::Global;
 use std::process::Abort;
 use test_rows::{Ask, Say};
-
-/// The node of this number.
-pub fn node(rt: &impl Abort, number: u8) -> NodeNo {
-    NodeNo::new(number).expect(rt, "a node")
-}
 
 /// A ring of so many nodes of 4,096 bytes.
 pub fn ring(rt: &impl Abort, alloc: Global, n: u8, eager: bool) -> World {

@@ -1,5 +1,4 @@
 // A sync of a device, and a round of a flusher, that last until a test has done something else.
-ghost use Rattle.std.specs.Prelude.{◌≡◌};
 
 use disk_model::{Device, DeviceFault, SystemFault};
 use ring_service::Gate;

@@ -9,6 +9,7 @@ use Rattle.ring_records.specs.declared.input.Input.{Input}
 use Rattle.ring_records.specs.declared.refusal.Refusal.{Refusal}
 use Rattle.ring_records.specs.declared.refusal.Refusal.TheVariants.{BadNumber, Failed, Limit}
 use Rattle.group_commit.specs.Desk.{DeskKept, kept_at, landed, launched, IsHere, IsSealed}
+use Rattle.group_commit.specs.DeskCalls.{HasFlown}
 use Rattle.group_commit.specs.Launching.{launched_all, needs_checkpoint, next_area}
 use Rattle.group_commit.specs.Ticket.{TicketView}
 use Rattle.ring_records.specs.Answer.{Answered}
@@ -68,8 +69,7 @@ none_of None e = refl
 none_of (Some x) e = cc
 
 -- a ticket that is open stays so where the tickets stay
-pub still_here : (old new : DeskKept) (ticket : TicketView) (kept : Answered) → new ≡ record old { view = record old.view { state = new.view.state; failed = new.view.failed } }
-    → IsHere old.view ticket kept → IsHere new.view ticket kept
+pub still_here : (old new : DeskKept) (ticket : TicketView) (kept : Answered) → HasFlown old new → IsHere old.view ticket kept → IsHere new.view ticket kept
 still_here old new ticket kept stays here = record {
   node = here.node ∙ sym (ap (λ (d : DeskKept). d.view.member.node) stays);
   run = here.run ∙ sym (ap (λ (d : DeskKept). d.view.run) stays);

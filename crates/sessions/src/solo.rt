@@ -1,11 +1,12 @@
 // A service over one node.
-ghost use Rattle.std.specs.Prelude.{◌≡◌, ◌⊎◌, ◌+◌, ◌≤◌, ◌<◌, ℕ, length, true, false, not, is_some, nat_lt, Some, None, IfOk, IfErr, OnOk, OnErr};
+ghost use Rattle.std.specs.Prelude.{◌≡◌, ◌⊎◌, ◌+◌, ◌≤◌, ◌<◌, ℕ, length, true, false, not, is_some, nat_lt, Some, None, IfErr, OnOk, OnErr};
 ghost use Rattle.std.specs.Option.{ForNone, ForSome};
 ghost use Rattle.gated_journal.specs.Unread.{IsFault};
 ghost use Rattle.group_commit.specs.Desk.{ended, IsHere};
+ghost use Rattle.group_commit.specs.DeskCalls.{HasFlown};
 ghost use Rattle.group_commit.specs.Ticket.{shown};
 ghost use Rattle.node_store.specs.Node as nodes;
-ghost use Rattle.node_store.specs.Flying.{settled_base};
+ghost use Rattle.node_store.specs.Flying.{settled};
 ghost use Rattle.ring_records.specs.Answer.{Answered};
 ghost use Rattle.ring_records.specs.States.{is_idle, opened};
 ghost use Rattle.ring_records.specs.Outside.{is_outside};
@@ -102,8 +103,8 @@ fn settle<D: Device>(node: &mut Node<D>) -> Result<(), Refusal>
     requires durable { (nodes.state_of node.old).durable ≤ length (nodes.state_of node.old).inputs }
     requires idle { is_idle (nodes.state_of node.old) ≡ true }
     requires works { (nodes.desk_of node.old).view.failed ≡ false }
-    ensures next { OnOk result (nodes.desk_of node.new ≡ record (nodes.desk_of node.old) { view = record (nodes.desk_of node.old).view { state = opened (settled_base (nodes.desk_of node.old)) (nodes.state_of node.old).inputs } }) }
-    ensures stays { nodes.desk_of node.new ≡ record (nodes.desk_of node.old) { view = record (nodes.desk_of node.old).view { state = nodes.state_of node.new; failed = (nodes.desk_of node.new).view.failed } } }
+    ensures next { OnOk result (nodes.desk_of node.new ≡ settled (nodes.desk_of node.old)) }
+    ensures stays { HasFlown (nodes.desk_of node.old) (nodes.desk_of node.new) }
     ensures inputs { OnErr result ((nodes.state_of node.new).inputs ≡ (nodes.state_of node.old).inputs) }
     ensures cause { IfErr result (λ why. IsFault (D.count (nodes.device_of node.old)) (D.count (nodes.device_of node.new)) why ⊎ (why ≡ Refusal.OutOfMemory)) }
 {

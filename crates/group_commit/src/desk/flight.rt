@@ -19,17 +19,17 @@ use ring_records::{BATCH_INPUTS, EPOCHS, LAYOUT, Refusal};
 
 impl Desk {
     ghost use Rattle.group_commit.specs.Desk.{known_all, seen, frees_room, is_due};
-    ghost use Rattle.group_commit.specs.DeskCalls.{IsFlying};
+    ghost use Rattle.group_commit.specs.DeskCalls.{IsFlying, flown_with};
     ghost use Rattle.group_commit.specs.Launching.{launched_all, launch_objection, checkpoint_objection, needs_checkpoint, MayRenew};
     ghost use Rattle.group_commit.specs.Past.{IsPast};
-    ghost use Rattle.gated_journal.specs.Batch.{shown as batch_shown, is_checkpoint, kept_in, landed as receipted, lost, numbered, numbered_with, numbered_by, base_by};
+    ghost use Rattle.gated_journal.specs.Batch.{shown as batch_shown, is_checkpoint, kept_in, landed as receipted, lost, numbered_by, base_by};
 
     /// The first inputs that wait, at most 64, as a batch to be made durable; they fly from then on. The caller sees that no
     /// checkpoint is needed. `None` exactly where none waits. Refused as 9 where the desk has failed, as 12 where a batch or a checkpoint is flying, and as 8.
     pub fn launch(&mut self) -> Result<Option<Batch>, Refusal>
         requires plain { needs_checkpoint self.old ≡ false }
         ensures batch { IfOk result (λ some. IfSome some (λ batch. batch_shown batch
-            ≡ numbered self.old.view.member.node (self.old.opening.inputs + self.old.view.state.durable) (flying_in self.new.view.state))) }
+            ≡ flown_with self.old (flying_in self.new.view.state) None)) }
         ensures none { IfOk result (λ some. MatchOption some (self.old.view.state.durable ≡ length self.old.view.state.inputs) (λ _. self.old.view.state.durable < length self.old.view.state.inputs)) }
         ensures fits { IfOk result (λ some. IfSome some (λ batch. used self.new.view.state.base (flown_in self.new.view.state) ≤ self.new.view.member.capacity)) }
         ensures suits { IfOk result (λ some. IfSome some (λ batch. AreSuited self.old.view.state.base.layout (batch_shown batch).inputs)) }
@@ -62,7 +62,7 @@ impl Desk {
     /// as 12 where a batch or a checkpoint is flying, as 6 where the journal may write no other area, as 7 where the
     /// summary's snapshot is longer than the capacity, and as 8.
     pub fn launch_checkpoint(&mut self) -> Result<Checkpoint, Refusal>
-        ensures checkpoint { IfOk result (λ made. numbered_by made ≡ numbered_with self.old.view.member.node (self.old.opening.inputs + self.old.view.state.durable) (flying_in self.new.view.state) (Some (snapshot_len newest (known_all self.old)))) }
+        ensures checkpoint { IfOk result (λ made. numbered_by made ≡ flown_with self.old (flying_in self.new.view.state) (Some (snapshot_len newest (known_all self.old)))) }
         ensures summary { IfOk result (λ made. base_by made ≡ known_all self.old) }
         ensures known { IfOk result (λ made. (past : List Input) → IsPast self.old.view.member self.old.opening past
             → base_by made ≡ summary self.old.view.member.node (seen past self.old).state.inputs) }

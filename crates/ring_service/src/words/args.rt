@@ -1,6 +1,6 @@
 //! The words of `ringd`, each as `clap` reads it.
-ghost use Rattle.std.specs.Prelude.{◌≡◌, false, Some, IfOk, codes};
-ghost use Rattle.clap.specs.Words.{new_rule, rule_of};
+ghost use Rattle.std.specs.Prelude.{◌≡◌, false, IfOk};
+ghost use Rattle.clap.specs.Words.{rule_of};
 ghost use Rattle.ring_service.specs.Words.{alone_rule, always_rule, flag_rule, listen_rule, number_rule, settings_rule, text_rule};
 
 use clap::{Arg, ArgAction, value_parser};

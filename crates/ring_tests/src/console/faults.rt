@@ -1,8 +1,9 @@
-// Readers and writers that fail, or that do little at a time.
+// Scripts that are read and told by readers and writers that fail, or that do little at a time.
 use crate::console::session::{FIRST_ELECTION, Line, Session};
+use crate::streams::{Drip, Narrow};
 use script_run::{RunFault, run};
 use std::alloc::{AllocGlobal, Global};
-use std::io::{self, ErrorKind, Read, Write};
+use std::io::{self, Read};
 use std::process::Abort;
 use std::test::Fail;
 
@@ -12,55 +13,6 @@ const SHORT: &[Line] = &[
     ("stand 1 red 5 10", &["1: sealed"]),
     ("flush 1", &["flushed 1", "1: stood"]),
 ];
-
-// Gives at most `size` bytes a read, and fails after `reads` reads.
-#[derive(Drop)]
-struct Drip<'a> {
-    rest: &'a [u8],
-    size: usize,
-    reads: usize,
-}
-
-impl<'a> Read for Drip<'a> {
-    fn read(&mut self, buf: &mut [u8]) -> io::Result<usize> {
-        if self.reads == 0 {
-            return Err(io::Error::from(ErrorKind::BrokenPipe));
-        }
-        self.reads -= 1;
-        let count = self.size.min(buf.len()).min(self.rest.len());
-        buf[..count].copy_from_slice(&self.rest[..count]);
-        self.rest = &self.rest[count..];
-        Ok(count)
-    }
-}
-
-// Takes at most `size` bytes a write; after `writes` writes it fails, or takes nothing.
-#[derive(Drop)]
-struct Narrow {
-    text: Vec<u8>,
-    size: usize,
-    writes: usize,
-    takes_nothing: bool,
-}
-
-impl Write for Narrow {
-    fn write(&mut self, buf: &[u8]) -> io::Result<usize> {
-        if self.writes == 0 {
-            if self.takes_nothing {
-                return Ok(0);
-            }
-            return Err(io::Error::from(ErrorKind::BrokenPipe));
-        }
-        self.writes -= 1;
-        let count = self.size.min(buf.len());
-        self.text.extend_from_slice(&buf[..count])?;
-        Ok(count)
-    }
-
-    fn flush(&mut self) -> io::Result<()> {
-        Ok(())
-    }
-}
 
 // Reads one byte at a time, and fails after so many reads: whether then nothing was printed, and else all was.
 fn is_read(alloc: Global, session: &Session, reads: usize) -> bool {

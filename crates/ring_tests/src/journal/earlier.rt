@@ -1,6 +1,4 @@
 // Journals of earlier layouts: with areas of layout 2, alone and beside such of layout 3, and with none.
-ghost use Rattle.std.specs.Prelude.{◌≡◌};
-ghost use Rattle.gated_journal.specs.Journal.{member_of};
 
 use super::Verdict::{Damaged, Reads};
 use super::images::{Row, is_read};

@@ -1,6 +1,4 @@
 // Retires, which an area of layout 3 holds, and no earlier one.
-ghost use Rattle.std.specs.Prelude.{◌≡◌};
-ghost use Rattle.gated_journal.specs.Journal.{member_of};
 
 use super::earlier::{BEHIND, EARLIER};
 use super::pieces::in_pieces;
@@ -105,7 +103,7 @@ fn suits(
 
 /// Whether the journal's area in use may hold these inputs.
 fn may_hold(rt: &(impl Abort + AllocGlobal), journal: &Journal<impl Device>, ops: &[Op]) -> bool {
-    let inputs = inputs(rt, ops);
+    let inputs = inputs(rt, rt.alloc(), ops);
     let suits = journal.suits(&inputs);
     drop(inputs);
     suits

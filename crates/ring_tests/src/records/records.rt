@@ -1,5 +1,5 @@
 // Records byte for byte, and each fault at its border.
-use crate::records::rows::input;
+use crate::rows::input;
 use ring_records::{GroupName, Input, RecordFault, Refusal, read_record, write_record};
 use std::process::Abort;
 use test_rows::Note::{Elected, Token};

@@ -1,5 +1,6 @@
 // Snapshots byte for byte, in each layout, and bytes that are none.
-use crate::records::rows::{bid, key, messages};
+use crate::records::rows::{bid, messages};
+use crate::rows::key;
 use ring_records::{
     KeyState, Msg, Refusal, Summary, SummaryReader, read_summary, summary_len, write_summary,
 };

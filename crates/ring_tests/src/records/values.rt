@@ -1,5 +1,5 @@
 // Where the ranges of names and numbers end, how values are ordered, and the way round a ring.
-use crate::records::rows::{candidate, key};
+use crate::rows::{candidate, key};
 use ring_records::{Bid, GroupName, NodeNo, Term};
 use std::process::Abort;
 

@@ -2,12 +2,9 @@
 // Each clause is a row that was worked out by hand, and holds by the definitions alone.
 #![tactic(auto, unfolding(ring_records::specs::Objection::retired, ring_records::specs::Objection::already, ring_records::specs::Objection::is_touched, ring_records::specs::Objection::stale, ring_records::specs::Objection::out_of_turn, ring_records::specs::Objection::too_many, ring_records::specs::Objection::objection, ring_records::specs::Admission::cost, ring_records::specs::Admission::used, ring_records::specs::Admission::no_room, ring_records::specs::Admission::shortage, ring_records::specs::Answer::refusal, ring_records::specs::Answer::input_of, ring_records::specs::Answer::gained, ring_records::specs::Answer::reply, ring_records::specs::Emission::passed_on, ring_records::specs::Emission::is_below, ring_records::specs::Emission::emit, ring_records::specs::Emission::sent, ring_records::specs::Release::carry, ring_records::specs::History::floor_for, ring_records::specs::History::floor, ring_records::specs::History::is_retired, ring_records::specs::History::names, ring_records::specs::History::is_named, ring_records::specs::History::touched, ring_records::specs::History::bid_for, ring_records::specs::History::first_stand, ring_records::specs::History::stood, ring_records::specs::History::message_of, ring_records::specs::History::taken, ring_records::specs::History::upto_of, ring_records::specs::History::credit, ring_records::specs::History::is_live_stand, ring_records::specs::History::stands, ring_records::specs::Leader::is_bid, ring_records::specs::Leader::makes_leader, ring_records::specs::Leader::first_leader, ring_records::specs::Leader::leader, ring_records::specs::Decided::decided, ring_records::specs::Decided::told, ring_records::specs::Leader::with_term, ring_records::specs::Leader::term_led, ring_records::specs::Leader::greater_term, ring_records::specs::Leader::latest, ring_records::specs::Lists::first, ring_records::specs::Lists::found_after, ring_records::specs::Order::is_less, ring_records::specs::Order::is_key, ring_records::specs::Release::carries, ring_records::specs::Release::credits, ring_records::specs::Release::packets, ring_records::specs::Release::notices, ring_records::specs::Release::window, ring_records::specs::Part::item_at, ring_records::specs::Part::part))]
 
-ghost use Rattle.std.specs.Prelude.{◌≡◌, [], ◌∷◌, ◌++◌, take, drop, true, false, Some, None, codes, length};
-ghost use Rattle.ring_records.specs.declared.base.Base.{Base};
-ghost use Rattle.ring_records.specs.declared.decision.Decision.{Decision};
+ghost use Rattle.std.specs.Prelude.{◌≡◌, [], ◌∷◌, take, drop, true, false, Some, None, codes};
 ghost use Rattle.ring_records.specs.declared.input.Input.{Input};
 ghost use Rattle.ring_records.specs.declared.msg.Msg.{Msg};
-ghost use Rattle.ring_records.specs.declared.notice.Notice.{Notice};
 ghost use Rattle.ring_records.specs.declared.packet.Packet.{Packet};
 ghost use Rattle.ring_records.specs.declared.refusal.Refusal.{Refusal};
 ghost use Rattle.ring_records.specs.declared.reply.Reply.{Reply};
@@ -19,7 +16,7 @@ ghost use Rattle.ring_records.specs.History.{touched, stood, taken, credit, stan
 ghost use Rattle.ring_records.specs.Leader.{latest};
 ghost use Rattle.ring_records.specs.Release.{packets, notices, window};
 ghost use Rattle.ring_records.specs.WorkedRetire.{red};
-ghost use Rattle.ring_records.specs.WorkedRun.{red_5, winner};
+ghost use Rattle.ring_records.specs.WorkedRun.{red_5};
 ghost use Rattle.ring_tests.specs.Worked.{blue, of, token_1, token_2, token_3, news, node_1, node_2, node_3, led_red_5, stood_5, credited, led_9, gave_up, counted, area};
 
 /// What each node of the first election sent.

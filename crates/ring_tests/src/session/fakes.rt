@@ -1,4 +1,4 @@
-// Services, readers and writers that a test can look into.
+// Services and clients that a test can look into.
 use ring_records::{Bid, Candidate, NodeNo, Refusal, Reply, Term};
 use sessions::{Question, Service};
 use std::cell::Cell;
@@ -35,55 +35,6 @@ pub fn led() -> Result<(Term, Candidate), Refusal> {
     let bid = Bid::new(30)?;
     let node = NodeNo::new(2)?;
     Ok((Term::new(5)?, Candidate { bid, node }))
-}
-
-/// Gives at most `size` bytes a read, and fails after `reads` reads.
-#[derive(Drop)]
-pub struct Drip<'a> {
-    pub rest: &'a [u8],
-    pub size: usize,
-    pub reads: usize,
-}
-
-impl<'a> Read for Drip<'a> {
-    fn read(&mut self, buf: &mut [u8]) -> io::Result<usize> {
-        if self.reads == 0 {
-            return Err(io::Error::from(ErrorKind::BrokenPipe));
-        }
-        self.reads -= 1;
-        let count = self.size.min(buf.len()).min(self.rest.len());
-        buf[..count].copy_from_slice(&self.rest[..count]);
-        self.rest = &self.rest[count..];
-        Ok(count)
-    }
-}
-
-/// Takes at most `size` bytes a write; after `writes` writes it fails, or takes nothing.
-#[derive(Drop)]
-pub struct Narrow {
-    pub text: Vec<u8>,
-    pub size: usize,
-    pub writes: usize,
-    pub takes_nothing: bool,
-}
-
-impl Write for Narrow {
-    fn write(&mut self, buf: &[u8]) -> io::Result<usize> {
-        if self.writes == 0 {
-            if self.takes_nothing {
-                return Ok(0);
-            }
-            return Err(io::Error::from(ErrorKind::BrokenPipe));
-        }
-        self.writes -= 1;
-        let count = self.size.min(buf.len());
-        self.text.extend_from_slice(&buf[..count])?;
-        Ok(count)
-    }
-
-    fn flush(&mut self) -> io::Result<()> {
-        Ok(())
-    }
 }
 
 /// A client that sends a line only once all its lines before were answered: so many answers were flushed out to it.

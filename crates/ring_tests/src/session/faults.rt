@@ -1,5 +1,6 @@
 // Readers and writers that fail, or that do little at a time.
-use crate::session::fakes::{Client, Drip, Ear, Narrow, Parrot, led};
+use crate::session::fakes::{Client, Ear, Parrot, led};
+use crate::streams::{Drip, Narrow};
 use ring_records::{Refusal, Reply};
 use sessions::{SessionFault, serve};
 use std::alloc::{AllocGlobal, Global};

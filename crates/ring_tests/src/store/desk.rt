@@ -2,8 +2,9 @@
 // 4,096. A test is a script: what is done with a desk step by step, and what comes of each step.
 ghost use Rattle.ring_records.specs.Snapshot.{IsSound};
 
+use crate::rows::{inputs, node};
 use crate::store::journal::{commit, commits, commits_all, journal_of};
-use crate::store::rows::{No, Tells, inputs, node, reply, request, sends_are, tells_are};
+use crate::store::rows::{No, Tells, reply, request, sends_are, tells_are};
 use disk_model::{FuseDevice, MemDevice};
 use gated_journal::{Batch, Journal, Opening, Receipt, Spoiled};
 use group_commit::{Desk, Landed, Stub, Ticket};

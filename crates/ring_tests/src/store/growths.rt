@@ -1,7 +1,8 @@
 // Calls of a node that are refused for want of memory change nothing, and succeed when they are made again.
+use crate::rows::node;
 use crate::store::journal::empty_device;
 use crate::store::rows::Tells::{GaveUp, Leads};
-use crate::store::rows::{Tells, node, request, sends_are, tells_are};
+use crate::store::rows::{Tells, request, sends_are, tells_are};
 use disk_model::{Device, FuseDevice, MemDevice};
 use group_commit::Ticket;
 use node_store::Node;

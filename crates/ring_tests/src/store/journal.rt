@@ -2,7 +2,7 @@
 ghost use Rattle.std.specs.Prelude.{◌≡◌};
 ghost use Rattle.gated_journal.specs.Journal.{member_of};
 
-use crate::store::rows::inputs;
+use crate::rows::inputs;
 use disk_model::{FuseDevice, MemDevice};
 use gated_journal::{Batch, Journal, Receipt, Spoiled, device_size};
 use ring_records::NodeNo;

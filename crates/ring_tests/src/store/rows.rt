@@ -1,8 +1,7 @@
 // What desks and nodes are given and give, in plain numbers. All numbers and names of rows are in their ranges.
-use ring_records::{Decision, Input, Key, NodeNo, Notice, Packet, Refusal, Reply, Request};
-use std::alloc::Global;
+use ring_records::{Decision, Key, Notice, Packet, Refusal, Reply, Request};
 use std::process::Abort;
-use test_rows::{Ask, Op, Say, Sends, candidate, key};
+use test_rows::{Ask, Say, Sends, candidate, key};
 
 /// Why a call is refused, as a plain name.
 #[derive(Clone, Copy)]
@@ -22,28 +21,12 @@ impl No {
     }
 }
 
-pub fn node(rt: &impl Abort, number: u8) -> NodeNo {
-    NodeNo::new(number).expect(rt, "a node")
-}
-
 pub fn request(rt: &impl Abort, ask: Ask) -> Request {
     ask.request().expect(rt, "a request")
 }
 
 pub fn reply(rt: &impl Abort, say: Say) -> Reply {
     say.reply().expect(rt, "a reply")
-}
-
-pub fn inputs(rt: &impl Abort, alloc: Global, ops: &[Op]) -> Vec<Input> {
-    let mut inputs = Vec::new(alloc);
-    if inputs.reserve(ops.len()).is_err() {
-        inputs.reserve(ops.len()).expect(rt, "ample memory");
-    }
-    for op in ops {
-        let input = op.input().expect(rt, "an input");
-        inputs.push(input).expect(rt, "ample memory");
-    }
-    inputs
 }
 
 /// The packets are these, in this order.

@@ -1,5 +1,5 @@
 // The node of a row, in memory: between sessions it is what its device holds.
-ghost use Rattle.std.specs.Prelude.{◌≡◌, ◌||◌, false, true, length, IfOk};
+ghost use Rattle.std.specs.Prelude.{◌≡◌, false, true, IfOk};
 ghost use Rattle.std.specs.Option.{ForSome};
 ghost use Rattle.group_commit.specs.Desk.{IsHere};
 ghost use Rattle.group_commit.specs.Ticket.{shown};

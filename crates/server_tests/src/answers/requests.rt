@@ -1,5 +1,6 @@
 // What heads ask.
-use ring_records::{GroupName, NodeNo};
+use crate::rows::node;
+use ring_records::GroupName;
 use ring_status::{HttpRequest, Method, Status, Target, read_request, read_target};
 use std::process::Abort;
 use std::test::Fail;
@@ -75,11 +76,6 @@ fn a_head_has_64_fields(rt: HostRuntime) -> Result<(), Fail> {
         assert!(rt; read_request(head.as_bytes()) == wanted);
     }
     Ok(())
-}
-
-// The node of this number.
-fn node(rt: &impl Abort, number: u8) -> NodeNo {
-    NodeNo::new(number).expect(rt, "a node")
 }
 
 #[test]

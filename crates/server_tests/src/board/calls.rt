@@ -1,7 +1,8 @@
 // A board and its readers by calls.
 ghost use Rattle.std.specs.Prelude.{◌≡◌};
 
-use crate::board::rows::{Latest, decision, key, notices, term_and_leader};
+use crate::board::rows::{decision, notices, term_and_leader};
+use crate::rows::{Latest, key};
 use decision_board::{Board, BoardReader, Naming, Opened, is_reader_count};
 use ring_records::{Candidate, Decision, Key, Notice, Refusal};
 use std::alloc::Global;

@@ -3,7 +3,8 @@
 // The test passes as it stands, with memory enough. `rt try --test --fail-alloc N` has its growth N refused.
 ghost use Rattle.std.specs.Prelude.{◌≡◌};
 
-use crate::board::rows::{Latest, decision, key, term_and_leader};
+use crate::board::rows::{decision, term_and_leader};
+use crate::rows::{Latest, key};
 use decision_board::{Board, BoardReader, Naming, Opened};
 use ring_records::{Candidate, Decision, Notice, Refusal};
 use std::alloc::Global;

@@ -1,7 +1,8 @@
 // A board that is told of floors.
 ghost use Rattle.std.specs.Prelude.{◌≡◌};
 
-use crate::board::rows::{decision, key};
+use crate::board::rows::decision;
+use crate::rows::key;
 use decision_board::{Board, BoardReader, Naming, Opened};
 use ring_records::{Key, Notice, Refusal};
 use std::alloc::AllocGlobal;

@@ -1,12 +1,8 @@
 // Decisions and notices as plain numbers.
-use ring_records::{Candidate, Decision, Key, Notice, Refusal, Term};
+use crate::rows::{Latest, key};
+use ring_records::{Decision, Notice, Refusal};
 use std::alloc::Global;
 use std::process::Abort;
-
-/// The key of this group and term.
-pub fn key(rt: &impl Abort, group: &str, term: u32) -> Key {
-    test_rows::key(group, term).expect(rt, "a key")
-}
 
 /// The decision for this group and term, that the node of this number and bid leads.
 pub fn decision(rt: &impl Abort, group: &str, term: u32, node: u8, bid: u32) -> Decision {
@@ -26,9 +22,6 @@ pub fn notices(alloc: Global, decisions: &[Decision]) -> Result<Vec<Notice>, Ref
     }
     Ok(notices)
 }
-
-/// What a read of the latest leader answers.
-pub type Latest = Result<Option<(Term, Candidate)>, Refusal>;
 
 /// What a read answers where this decision is the latest of its group.
 pub fn term_and_leader(decision: &Decision) -> Latest {

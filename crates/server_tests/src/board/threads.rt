@@ -1,7 +1,8 @@
 // Readers in threads of their own, beside a board that publishes.
 ghost use Rattle.std.specs.Prelude.{◌≡◌};
 
-use crate::board::rows::{Latest, decision, term_and_leader};
+use crate::board::rows::{decision, term_and_leader};
+use crate::rows::Latest;
 use decision_board::{Board, BoardReader, Naming, Opened};
 use ring_records::{Decision, GroupName, Key, Notice, Refusal, Term};
 use std::alloc::Global;

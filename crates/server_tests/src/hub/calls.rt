@@ -1,10 +1,12 @@
 // Calls of hubs that go well, or are refused as they are to be, and what these calls need.
-ghost use Rattle.std.specs.Prelude.{◌≡◌, ◌≤◌};
+ghost use Rattle.std.specs.Prelude.{◌≡◌};
 ghost use Rattle.ring_records.specs.Snapshot.{IsSound};
 ghost use Rattle.gated_journal.specs.Batch.{base_by};
 ghost use Rattle.gated_journal.specs.Journal.{member_of};
 
-use crate::hub::rows::{No, broken_journal, journal_of, node, refused, request};
+use crate::calls::refused;
+use crate::hub::rows::{No, broken_journal, journal_of};
+use crate::rows::{node, request};
 use commit_hub::{Hub, NodeLedger, Share, Tie, Work};
 use disk_model::{Device, MemDevice};
 use gated_journal::{Batch, Checkpoint, Journal, Receipt, Spoiled};

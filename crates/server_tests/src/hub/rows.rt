@@ -4,27 +4,15 @@ ghost use Rattle.ring_records.specs.Snapshot.{IsSound};
 ghost use Rattle.gated_journal.specs.Journal.{member_of};
 ghost use Rattle.commit_hub.specs.Over.{is_over};
 
+use crate::calls::refused;
+use crate::rows::{device_for, node};
 use disk_model::{FuseDevice, MemDevice};
-use gated_journal::{Journal, Opening, device_size};
+use gated_journal::{Journal, Opening};
 use group_commit::Desk;
 use ring_records::laws::summary_sound;
-use ring_records::{NodeNo, Refusal, Request, read_summary};
+use ring_records::{NodeNo, Refusal, read_summary};
 use std::alloc::AllocGlobal;
 use std::process::Abort;
-use test_rows::Ask;
-
-pub fn node(rt: &impl Abort, number: u8) -> NodeNo {
-    NodeNo::new(number).expect(rt, "a node")
-}
-
-pub fn request(rt: &impl Abort, ask: Ask) -> Request {
-    ask.request().expect(rt, "a request")
-}
-
-/// A refusal that is not to be.
-pub fn refused(rt: &impl Abort, refusal: Refusal) -> ! {
-    panic!(rt; "{refusal}")
-}
 
 /// Why a hub refuses a call.
 #[derive(Clone, Copy)]
@@ -91,17 +79,12 @@ pub fn desk_behind<R: Abort + AllocGlobal>(rt: &R) -> Desk
     Desk::open(rt.alloc(), node(rt, 1), 3, 4096, 0, opening_behind(rt)).expect(rt, "no inputs")
 }
 
-/// A device that holds nothing, with room for a journal of capacity 4,096.
-pub fn empty_device<R: Abort + AllocGlobal>(rt: &R) -> MemDevice {
-    let size = usize::try_from(device_size(4096)).expect(rt, "a size");
-    MemDevice::new(rt.alloc(), size).expect(rt, "ample memory")
-}
-
 /// A new journal of node 1 of 3, capacity 4,096.
 pub fn journal_of<R: Abort + AllocGlobal>(rt: &R) -> Journal<MemDevice>
     ensures { (member_of result).n ≡ 3 }
 {
-    match Journal::format(empty_device(rt), node(rt, 1), 3, 4096) {
+    let device = device_for(rt, 4096).expect(rt, "ample memory");
+    match Journal::format(device, NodeNo::first(), 3, 4096) {
         Ok(journal) => journal,
         Err((_device, refusal)) => refused(rt, refusal),
     }
@@ -109,7 +92,8 @@ pub fn journal_of<R: Abort + AllocGlobal>(rt: &R) -> Journal<MemDevice>
 
 /// A new journal of node 1 of 3, capacity 4,096, whose device fails from now on.
 pub fn broken_journal<R: Abort + AllocGlobal>(rt: &R) -> Journal<FuseDevice<MemDevice>> {
-    match Journal::format(FuseDevice::idle(empty_device(rt)), node(rt, 1), 3, 4096) {
+    let device = device_for(rt, 4096).expect(rt, "ample memory");
+    match Journal::format(FuseDevice::idle(device), NodeNo::first(), 3, 4096) {
         Ok(made) => {
             let mut journal = made;
             journal.arm(0, false);

@@ -2,8 +2,9 @@
 ghost use Rattle.std.specs.Prelude.{◌≡◌};
 ghost use Rattle.gated_journal.specs.Journal.{member_of};
 
+use crate::calls::refused;
 use crate::hub::calls::*;
-use crate::hub::rows::{No, journal_of, refused};
+use crate::hub::rows::{No, journal_of};
 use commit_hub::{Hub, Look, NodeLedger, Share, Tie};
 use disk_model::MemDevice;
 use gated_journal::{Batch, Journal};

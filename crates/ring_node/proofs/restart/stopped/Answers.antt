@@ -5,6 +5,7 @@ use Rattle.ring_records.specs.declared.input.Input.{Input}
 use Rattle.ring_records.specs.Member.{Member}
 use Rattle.ring_records.specs.States as states
 use Rattle.group_commit.specs.Desk.{DeskView, DeskKept, landed, seen}
+use Rattle.group_commit.specs.DeskCalls.{HasFlown}
 use Rattle.group_commit.specs.Past.{IsPast}
 use Rattle.node_store.specs.State.{ReadsAsLeft}
 use Rattle.ring_node.specs.Held.{AreHeld, MayFly, launched_by, flies}
@@ -14,15 +15,14 @@ use Rattle.ring_node.proofs.restart.stopped.Goals as goal
 use Rattle.ring_node.proofs.restart.stopped.Goals.{After-launch-flown, After-crash}
 
 -- the fuse and what is launched leave whose it is, its opening and its tickets
-stays : (c : After-launch-flown) → c.launch-flown.new.node.desk
-    ≡ record c.args.node.desk { view = record c.args.node.desk.view { state = c.launch-flown.new.node.desk.view.state; failed = c.launch-flown.new.node.desk.view.failed } }
+stays : (c : After-launch-flown) → HasFlown c.args.node.desk c.launch-flown.new.node.desk
 stays c =
     let later = c.launch-flown.new.node.desk.view in
     c.launch-flown.ensures.stays ∙ ap (λ (d : DeskKept). record d { view = record d.view { state = later.state; failed = later.failed } }) c.arm.ensures.desk
 
 -- whether it landed or flies for good, the images read as what is left of the state in which it flies
 reads : (c : After-crash) (past : List Input) (image : List ℕ)
-    → c.launch-flown.new.node.desk ≡ record c.args.node.desk { view = record c.args.node.desk.view { state = c.launch-flown.new.node.desk.view.state; failed = c.launch-flown.new.node.desk.view.failed } }
+    → HasFlown c.args.node.desk c.launch-flown.new.node.desk
     → IsPast c.args.node.desk.view.member c.args.node.desk.opening past
     → ((seen past c.launch-flown.new.node.desk).state ≡ (flies c.args.flight (seen past c.args.node.desk)).state) ⊎ ((seen past c.launch-flown.new.node.desk).state ≡ states.landed (flies c.args.flight (seen past c.args.node.desk)).state)
     → MayLeave (disk_of c.crash.new.self) image → ReadsAsLeft c.args.node.desk.view.member (flies c.args.flight (seen past c.args.node.desk)).state image

@@ -26,16 +26,26 @@ invariant_of-self c =
       answers = subst (λ (ts : List (ℕ × Answered)). AreAnswers (member_in d) d.base d.inputs.all.list ts) (sym c.take_back.ensures) (answers_without (member_in d) d.base d.inputs.all.list c.args.ticket.own d.tickets.entries i.answers);
     }
 
-pub returns-clause-answer : goal.returns-clause-answer
-returns-clause-answer c =
+pub returns : goal.returns
+returns c =
     let d = c.self.inside in
     let own = c.args.ticket.own in
     let kept = answered_with c.args.ticket.question c.in-Some.reply c.in-Some.number in
     let here = ap (λ (v : DeskKept). lookup (nat_eq own) v.view.tickets) c.self.view_is ∙ c.in-Some.ensures.own in
     let few : c.in-Some.number ≤ c.args.self.now.opening.inputs + c.args.self.now.view.state.durable = search rules in
-    subst (λ (v : DeskKept). kept.answer.number ≤ v.opening.inputs + v.view.state.durable → (past : List Input) → IsPast v.view.member v.opening past → IsAnswer v.view.member past (durable_in v.view.state) kept)
+    let answer = subst (λ (v : DeskKept). kept.answer.number ≤ v.opening.inputs + v.view.state.durable → (past : List Input) → IsPast v.view.member v.opening past → IsAnswer v.view.member past (durable_in v.view.state) kept)
     c.self.view_is
     (λ few past is.
     let front : d.base.inputs ≡ length past = λ k. (is.summed k).inputs in
     answer_durable (member_in d) past (state_in d) kept (omega (arith, few, front)) (answers_at (member_in d) d.base d.inputs.all.list own kept d.tickets.entries c.self.invariant.answers here past is))
-    few
+    few in
+    record {
+      released = search rules;
+      reply = search rules;
+      durable = search rules;
+      answer = answer;
+      next = search rules;
+      refusal = tt;
+      back = tt;
+      same = tt;
+    }

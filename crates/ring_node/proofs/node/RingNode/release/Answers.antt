@@ -34,11 +34,11 @@ unreachable-requires c =
     let low : kept.answer.number ≤ c.self.inside.node.desk.opening.inputs + c.self.inside.node.desk.view.state.durable =
     subst (λ (d : ℕ). kept.answer.number ≤ d) (sym (count_past c.self.inside.past.items c.self.inside.node.desk _ c.self.invariant.behind)) (early _ _ _ c.self.invariant.whole.served c.in-Some.first c.pop_front.new.self.items queue due) in
     let past = c.self.inside.past.items in
-    not_sealed c.self.inside.node.desk (shown c.first.inside.ticket) kept _ (here_since past c.self.inside.node.desk _ _ here) low c.in-Err.ensures.refusal
+    not_sealed c.self.inside.node.desk (shown c.first.inside.ticket) kept _ (here_since past c.self.inside.node.desk _ _ here) low c.in-Err.ensures.redeemed.refusal
 
 -- what is left when the ticket of the queue ended
 left : (c : In-Ok) → c.redeem.new.self.desk ≡ record c.self.inside.node.desk { view = ended c.in-Some.first.ticket.own c.self.inside.node.desk.view }
-left c = c.in-Ok.ensures.next ∙ ap (λ (x : HeldView). record c.self.inside.node.desk { view = ended x.ticket.own c.self.inside.node.desk.view }) c.first.view_is
+left c = c.in-Ok.ensures.redeemed.next ∙ ap (λ (x : HeldView). record c.self.inside.node.desk { view = ended x.ticket.own c.self.inside.node.desk.view }) c.first.view_is
 
 pub invariant_of-self-2 : goal.invariant_of-self-2
 invariant_of-self-2 c =
@@ -56,7 +56,7 @@ returns-clause-some c =
     let ticket : shown c.first.inside.ticket ≡ h.ticket = ap (λ (x : HeldView). x.ticket) c.first.view_is in
     let serial : h.serial ≡ c.first.inside.serial = ap (λ (x : HeldView). x.serial) (sym c.first.view_is) in
     let answered = c.in-Ok.stub in
-    let there = subst (λ (t : TicketView). IsHere desk t answered) ticket (here_whole c.self.inside.past.items c.self.inside.node.desk _ _ c.in-Ok.ensures.released) in
+    let there = subst (λ (t : TicketView). IsHere desk t answered) ticket (here_whole c.self.inside.past.items c.self.inside.node.desk _ _ c.in-Ok.ensures.redeemed.released) in
     let due = subst (λ (d : ℕ). MatchFirst (λ x. x.ticket.number ≤ d) c.self.inside.held.items) (c.durable.ensures ∙ count_past c.self.inside.past.items c.self.inside.node.desk _ c.self.invariant.behind) (c.is_due.ensures.yes c.if-not-is_due.false) in
     let named : ◌≡◌ {A = Open} (record { serial = h.serial; kept = answered }) (record { serial = c.first.inside.serial; kept = answered }) = λ i. record { serial = serial i; kept = answered } in
     let after : shown_with (ended h.ticket.own desk).tickets rest ≡ shown_with c.redeem.new.self.desk.view.tickets rest = ap (λ (d : DeskKept). shown_with d.view.tickets rest) (sym (left (goal.at.returns-clause-some c).In-Ok)) in
