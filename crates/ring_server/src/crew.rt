@@ -3,7 +3,7 @@ ghost use Rattle.std.specs.Prelude.{◌≡◌, ◌+◌, length, None, IsTrue, If
 ghost use denote.Param.Send.{IsSend};
 
 use crate::clerk::{Clerk, serve_clerk, take_clerk};
-use crate::door::{Front, Seat, serve_door, take_seats};
+use crate::door::{Doorway, Seat, serve_door, take_seats};
 use crate::flush::flush_all;
 use crate::inbox::take_all;
 use crate::links::Links;
@@ -159,7 +159,7 @@ fn start_doors<
     rt: &'s R,
     common: &'s Common<'s, A>,
     seats: Vec<Seat<J, A>>,
-    front: &'s Front,
+    doorway: &'s Doorway,
     handles: &mut Vec<JoinHandle<Share<A>>>,
 ) -> Result<(), Shortage>
     ensures { OnOk result (length handles.new.items ≡ length handles.old.items + length seats.items) }
@@ -172,7 +172,7 @@ fn start_doors<
             latch,
         } = *common;
         let started = scope
-            .spawn(move || serve_door(rt, alloc, hub, seat, front, links, latch))
+            .spawn(move || serve_door(rt, alloc, hub, seat, doorway, links, latch))
             .ok();
         keep(handles, started)?;
     }
@@ -220,7 +220,7 @@ fn start_crew<
     common: &'s Common<'s, A>,
     crew: Crew<J, A>,
     inbox: &'s Receiver<Letter>,
-    front: &'s Front,
+    doorway: &'s Doorway,
     handles: &mut Vec<JoinHandle<Share<A>>>,
 ) -> Result<(), Shortage>
     ensures { OnOk result (length handles.new.items ≡ length handles.old.items + (length crew.seats.items + 1)) }
@@ -232,7 +232,7 @@ fn start_crew<
     } = crew;
     handles.reserve(seats.len().saturating_add(1))?;
     start_inbox(scope, rt, common, share, inbox, handles)?;
-    start_doors(scope, rt, common, seats, front, handles)?;
+    start_doors(scope, rt, common, seats, doorway, handles)?;
     start_clerk(scope, rt, common, clerk)
 }
 
@@ -286,8 +286,8 @@ pub(crate) fn run_threads<
         crew,
     } = ends;
     let inbox = &inbox;
-    let front = Front::new(listener, doors);
-    let front = &front;
+    let doorway = Doorway::new(listener, doors);
+    let doorway = &doorway;
     scope(
         scope_env(),
         rt,
@@ -301,7 +301,7 @@ pub(crate) fn run_threads<
                 drop((crew, handles));
                 return unstarted(rt, latch);
             };
-            let outcome = start_crew(scope, rt, common, crew, inbox, front, &mut handles);
+            let outcome = start_crew(scope, rt, common, crew, inbox, doorway, &mut handles);
             // No message of this run may come to the successor before these.
             send_window(rt, hub, links);
             let is_started = outcome.is_ok();

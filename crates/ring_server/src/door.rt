@@ -58,7 +58,7 @@ pub(crate) fn take_seats<J: Naming, A: NodeLedger, R: Wait>(
 
 /// What the doors of a node share: where clients come, and how many sessions are begun and how many doors are not done.
 #[derive(Drop)]
-pub(crate) struct Front {
+pub(crate) struct Doorway {
     listener: TcpListener,
     idle: Option<Duration>,
     leap: u32,
@@ -68,10 +68,10 @@ pub(crate) struct Front {
     ghost bounded: { leap ≤ 999999999 },
 }
 
-impl Front {
+impl Doorway {
     /// Before the first session.
-    pub(crate) fn new(listener: TcpListener, doors: Doors) -> Front {
-        Front {
+    pub(crate) fn new(listener: TcpListener, doors: Doors) -> Doorway {
+        Doorway {
             listener,
             idle: doors.idle,
             leap: doors.leap,
@@ -121,15 +121,15 @@ fn serve_next<S: Service, A: NodeLedger, R: Wait + Clock>(
     rt: &R,
     alloc: Global,
     hub: &Hub<A>,
-    front: &Front,
+    doorway: &Doorway,
     links: &Links<'_>,
     door: u32,
     service: &mut EnrolledService<'_, R, S>,
 ) -> bool {
-    if !front.takes_turn() {
+    if !doorway.takes_turn() {
         return false;
     }
-    let Some(stream) = next_client(rt, &front.listener) else {
+    let Some(stream) = next_client(rt, &doorway.listener) else {
         return false;
     };
     links.tally.begin_session(rt);
@@ -140,7 +140,7 @@ fn serve_next<S: Service, A: NodeLedger, R: Wait + Clock>(
         node: links.node,
         door,
         stream: &stream,
-        idle: front.idle,
+        idle: doorway.idle,
         tally: links.tally,
         stay: &stay,
     };
@@ -162,7 +162,7 @@ pub(crate) fn serve_door<'a, J: Naming, A: NodeLedger, R: Wait + Clock>(
     alloc: Global,
     hub: &'a Hub<A>,
     seat: Seat<J, A>,
-    front: &Front,
+    doorway: &Doorway,
     links: &'a Links<'a>,
     latch: &StartLatch,
 ) -> Share<A> {
@@ -175,16 +175,16 @@ pub(crate) fn serve_door<'a, J: Naming, A: NodeLedger, R: Wait + Clock>(
         return share;
     }
     let service = HubService::new(rt, hub, share, reader);
-    let service = EntryService::new(rt, hub, front.leap, service);
+    let service = EntryService::new(rt, hub, doorway.leap, service);
     let mut service = EnrolledService::new(rt, links, number, service);
     for _ in rt.forever() {
-        if !serve_next(rt, alloc, hub, front, links, number, &mut service) {
+        if !serve_next(rt, alloc, hub, doorway, links, number, &mut service) {
             break;
         }
     }
     let service = service.into_service().into_service();
     let (share, _reader, _last) = service.into_parts();
-    if front.closes() {
+    if doorway.closes() {
         links.leave(rt);
     }
     share

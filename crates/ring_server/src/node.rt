@@ -23,7 +23,7 @@ use std::thread::Threads;
 use std::time::Clock;
 
 /// A node that is open: its hub, its flusher, and what its other threads take with them.
-struct Opened<J: Naming, A: NodeLedger, V: Device> {
+struct ServedNode<J: Naming, A: NodeLedger, V: Device> {
     hub: Hub<A>,
     flusher: Flusher<V, J, A>,
     ends: Ends<J, A>,
@@ -54,7 +54,7 @@ pub(crate) fn serve_node<
     let Some(node) = open::<J, A, V, R>(rt, site) else {
         return unstarted(rt, latch);
     };
-    let Opened { hub, flusher, ends } = node;
+    let ServedNode { hub, flusher, ends } = node;
     let successor = Successor::new();
     let turnstile = Turnstile::new(rt, doors);
     let links = Links::new(shared, &successor, tally, &turnstile, place);
@@ -77,7 +77,7 @@ pub(crate) fn serve_node<
 fn open<J: Naming, A: NodeLedger, V: Device + Drop, R: Wait>(
     rt: &R,
     site: Site<V>,
-) -> Option<Opened<J, A, V>>
+) -> Option<ServedNode<J, A, V>>
     requires member { (kept_by site.opened).view.member ≡ A.member }
     requires opening { (kept_by site.opened).opening ≡ A.opening }
     requires opened { (kept_by site.opened).opening.inputs + length (kept_by site.opened).view.state.inputs ≡ A.opened }
@@ -109,7 +109,7 @@ fn open<J: Naming, A: NodeLedger, V: Device + Drop, R: Wait>(
     let ends = take_ends(rt, alloc, &hub, &board, entrance);
     let flusher = Flusher::new(alloc, journal, board, tie);
     match ends {
-        Some(ends) => Some(Opened { hub, flusher, ends }),
+        Some(ends) => Some(ServedNode { hub, flusher, ends }),
         None => {
             end_flusher(rt, flusher);
             drop(hub);

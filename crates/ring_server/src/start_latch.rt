@@ -29,7 +29,7 @@ impl From<Shortage> for RunFault {
 
 /// How far the start of a ring is.
 #[derive(Drop)]
-struct Stage {
+struct Starting {
     awaited: usize,
     shortage: Option<Shortage>,
     serves: Option<bool>,
@@ -40,7 +40,7 @@ struct Stage {
 /// all.
 #[derive(Drop)]
 pub(crate) struct StartLatch {
-    stage: Mutex<Stage>,
+    stage: Mutex<Starting>,
     told: Condvar,
     opened: Condvar,
 }
@@ -48,7 +48,7 @@ pub(crate) struct StartLatch {
 impl StartLatch {
     /// Of so many nodes that have told nothing yet.
     pub(crate) fn new(nodes: usize) -> StartLatch {
-        let stage = Stage {
+        let stage = Starting {
             awaited: nodes,
             shortage: None,
             serves: None,

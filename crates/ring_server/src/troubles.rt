@@ -11,7 +11,7 @@ use std::time::{Clock, Instant};
 
 /// What is told of the troubles of a node.
 #[derive(Clone, Copy)]
-struct Told {
+struct NodeTroubles {
     hangs: Spell,
     room: Spell,
     memory: Spell,
@@ -19,9 +19,9 @@ struct Told {
     has_failed: bool,
 }
 
-impl Told {
-    fn new() -> Told {
-        Told {
+impl NodeTroubles {
+    fn new() -> NodeTroubles {
+        NodeTroubles {
             hangs: Spell::new(),
             room: Spell::new(),
             memory: Spell::new(),
@@ -84,7 +84,7 @@ pub(crate) struct Troubles {
     begun: Option<Instant>,
     // the second of the last look
     looked: u64,
-    told: [Told; 16],
+    told: [NodeTroubles; 16],
 }
 
 impl Troubles {
@@ -93,7 +93,7 @@ impl Troubles {
         Troubles {
             begun: Instant::now(rt).ok(),
             looked: 0,
-            told: [Told::new(); 16],
+            told: [NodeTroubles::new(); 16],
         }
     }
 
