@@ -1,5 +1,5 @@
 -- How a ticket ends at a desk: with its reply, or with none.
-use Rattle.std.specs.Prelude.{Bool, ◌≡◌, ◌+◌, ◌≤◌, ◌||◌, true, Result, IfOk, IfErr, OnOk, OnErr}
+use Rattle.std.specs.Prelude.{Bool, List, ◌≡◌, ◌+◌, ◌≤◌, ◌||◌, true, Result, IfOk, IfErr, OnOk, OnErr}
 use Rattle.ring_records.specs.declared.input.Input.{Input}
 use Rattle.ring_records.specs.declared.refusal.Refusal.{Refusal}
 use Rattle.ring_records.specs.declared.refusal.Refusal.TheVariants as refused
