@@ -4,10 +4,9 @@ ghost use Rattle.ring_records.specs.Snapshot.{IsSound};
 ghost use Rattle.gated_journal.specs.Batch.{base_by};
 ghost use Rattle.gated_journal.specs.Journal.{member_of};
 
-use crate::journal::{lands, made, renews};
-use disk_model::MemDevice;
+use disk_model::{Device, MemDevice};
 use gated_journal::{Batch, Checkpoint, Journal, Opening, Receipt, Spoiled, device_size};
-use ring_records::{Input, LAYOUT, NodeNo, Refusal, read_summary};
+use ring_records::{Input, LAYOUT, NodeNo, Refusal, Summary, read_summary, summary_len};
 use std::alloc::Global;
 use std::process::Abort;
 use test_rows::Op;
@@ -22,7 +21,7 @@ static STOOD: [u8; 69] = [
 ];
 
 /// The Stand of that node.
-fn stand(rt: &impl Abort) -> [Input; 1] {
+pub fn stand(rt: &impl Abort) -> [Input; 1] {
     [Op::Stand("red", 5, 10).input().expect(rt, "an input")]
 }
 
@@ -56,17 +55,82 @@ fn is_durable(rt: &impl Abort, ended: Result<Receipt, Spoiled>) {
     }
 }
 
+/// Commits the batch, which is the journal's next one.
+fn lands<D: Device>(
+    rt: &impl Abort,
+    journal: &mut Journal<D>,
+    batch: Batch,
+) -> Result<Receipt, Spoiled>
+    ensures { member_of journal.new ≡ member_of journal.old }
+{
+    assert!(rt; !journal.is_spoiled());
+    assert!(rt; batch.node() == journal.node());
+    assert!(rt; batch.first() == journal.len());
+    assert!(rt; journal.room() >= batch.cost());
+    assert!(rt; journal.suits(batch.inputs()));
+    journal.commit(batch)
+}
+
+/// A new journal of node 1 of 3 on this device.
+pub fn formatted<D: Device + Drop>(rt: &impl Abort, device: D) -> Journal<D>
+    ensures { (member_of result).n ≡ 3 }
+{
+    let Ok(journal) = Journal::format(device, NodeNo::first(), 3, CAPACITY) else {
+        panic!(rt; "the device works");
+    };
+    journal
+}
+
+/// Makes the Stand durable, which is the journal's first input.
+pub fn takes_stand<D: Device>(rt: &impl Abort, alloc: Global, journal: &mut Journal<D>)
+    ensures { member_of journal.new ≡ member_of journal.old }
+{
+    let batch = batch_at_last(rt, alloc, &stand(rt));
+    is_durable(rt, lands(rt, journal, batch));
+}
+
 /// A new journal of node 1 of 3 in which the Stand is durable.
 fn committed(rt: &impl Abort, alloc: Global) -> Journal<MemDevice>
     ensures { (member_of result).n ≡ 3 }
 {
-    let device = device_at_last(rt, alloc);
-    let Ok(mut journal) = Journal::format(device, NodeNo::first(), 3, CAPACITY) else {
-        panic!(rt; "the device works");
-    };
-    let batch = batch_at_last(rt, alloc, &stand(rt));
-    is_durable(rt, lands(rt, &mut journal, batch));
+    let mut journal = formatted(rt, device_at_last(rt, alloc));
+    takes_stand(rt, alloc, &mut journal);
     journal
+}
+
+/// The checkpoint of node 1 by this summary, which stands for these inputs too, from this number on.
+fn made(
+    rt: &impl Abort,
+    alloc: Global,
+    first: u64,
+    inputs: &[Input],
+    summary: Summary,
+) -> Result<Checkpoint, Refusal>
+    requires { IsSound 3 summary }
+    ensures { IfOk result (λ made. IsSound 3 (base_by made)) }
+{
+    assert!(rt; summary.floors.len() <= u32::MAX as usize);
+    assert!(rt; summary_len(&summary, LAYOUT) <= u64::from(u32::MAX));
+    assert!(rt; summary.keys.len() <= u32::MAX as usize);
+    Checkpoint::new(alloc, NodeNo::first(), first, inputs, summary)
+}
+
+/// Makes the checkpoint durable, which is the journal's next one.
+fn renews<D: Device>(
+    rt: &impl Abort,
+    journal: &mut Journal<D>,
+    checkpoint: Checkpoint,
+) -> Result<Receipt, Spoiled>
+    requires size { (member_of journal.old).n ≡ 3 }
+    requires sound { IsSound 3 (base_by checkpoint) }
+    ensures { member_of journal.new ≡ member_of journal.old }
+{
+    assert!(rt; !journal.is_spoiled());
+    assert!(rt; checkpoint.node() == journal.node());
+    assert!(rt; checkpoint.first() == journal.len());
+    assert!(rt; checkpoint.cost() <= journal.capacity());
+    assert!(rt; journal.epoch() < (1 << 40) - 1);
+    journal.checkpoint(checkpoint)
 }
 
 /// The checkpoint of that node, which stands for that Stand.
@@ -91,7 +155,8 @@ fn checkpoint_at_last(rt: &impl Abort, alloc: Global) -> Checkpoint
     }
 }
 
-fn takes_checkpoint(rt: &impl Abort, alloc: Global, journal: &mut Journal<MemDevice>)
+/// Makes the summary of the Stand durable, which is all that the journal holds.
+pub fn takes_checkpoint<D: Device>(rt: &impl Abort, alloc: Global, journal: &mut Journal<D>)
     requires { (member_of journal.old).n ≡ 3 }
 {
     let checkpoint = checkpoint_at_last(rt, alloc);
@@ -99,11 +164,11 @@ fn takes_checkpoint(rt: &impl Abort, alloc: Global, journal: &mut Journal<MemDev
 }
 
 /// The journal on the device, which comes back where the first call finds no memory.
-fn reopened_at_last(
+pub fn reopened_at_last<D: Device + Drop>(
     rt: &impl Abort,
     alloc: Global,
-    device: MemDevice,
-) -> (Journal<MemDevice>, Opening)
+    device: D,
+) -> (Journal<D>, Opening)
     ensures { (member_of result.0).n ≡ 3 }
 {
     let (device, refusal) = match Journal::reopen(alloc, device, NodeNo::first(), 3) {
@@ -118,7 +183,7 @@ fn reopened_at_last(
 }
 
 /// The opening is of this epoch, with a summary of so many inputs, and these behind it.
-fn is_opened(rt: &impl Abort, opening: &Opening, found: (u64, u64), inputs: &[Input]) {
+pub fn is_opened(rt: &impl Abort, opening: &Opening, found: (u64, u64), inputs: &[Input]) {
     assert!(rt; (opening.epoch, opening.base.inputs) == found);
     assert!(rt; opening.inputs.as_slice() == inputs);
 }

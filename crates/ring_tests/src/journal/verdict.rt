@@ -1,17 +1,14 @@
 // What a journal on a device is told to be.
-use super::device;
 use disk_model::MemDevice;
 use gated_journal::Journal;
 use ring_records::{NodeNo, Refusal};
-use std::alloc::{AllocGlobal, Global};
-use std::process::Abort;
+use std::alloc::Global;
 
 /// What is read of a device: so many inputs, in this epoch, or the fault.
 #[derive(Clone, Copy)]
 pub enum Verdict {
     Reads(u64, u64),
     NotFormatted,
-    WrongNode,
     Damaged(u64),
 }
 
@@ -20,7 +17,6 @@ impl Verdict {
         match self {
             Verdict::Reads(inputs, epoch) => Ok((inputs, epoch)),
             Verdict::NotFormatted => Err(Refusal::NotFormatted),
-            Verdict::WrongNode => Err(Refusal::WrongNode),
             Verdict::Damaged(at) => Err(Refusal::Damaged(at)),
         }
     }
@@ -44,11 +40,4 @@ pub fn found_by(alloc: Global, device: MemDevice, node: NodeNo) -> Result<(u64, 
 /// The same of node 1.
 pub fn found(alloc: Global, device: MemDevice) -> Result<(u64, u64), Refusal> {
     found_by(alloc, device, NodeNo::first())
-}
-
-/// Of the first bytes of this image, which are so many, this is told.
-pub fn is_cut<R: Abort + AllocGlobal>(rt: &R, image: &[u8], len: usize, verdict: Verdict) {
-    assert!(rt; len <= image.len());
-    let device = device(rt, &[(0, &image[..len])]);
-    assert!(rt; found(rt.alloc(), device) == verdict.answer());
 }
