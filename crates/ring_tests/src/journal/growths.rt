@@ -6,7 +6,7 @@ ghost use Rattle.gated_journal.specs.Journal.{member_of};
 
 use disk_model::{Device, MemDevice};
 use gated_journal::{Batch, Checkpoint, Journal, Opening, Receipt, Spoiled, device_size};
-use ring_records::{Input, LAYOUT, NodeNo, Refusal, Summary, read_summary, summary_len};
+use ring_records::{Input, LAYOUT, NodeNo, Refusal, read_summary, summary_len};
 use std::alloc::Global;
 use std::process::Abort;
 use test_rows::Op;
@@ -55,26 +55,8 @@ fn is_durable(rt: &impl Abort, ended: Result<Receipt, Spoiled>) {
     }
 }
 
-/// Commits the batch, which is the journal's next one.
-fn lands<D: Device>(
-    rt: &impl Abort,
-    journal: &mut Journal<D>,
-    batch: Batch,
-) -> Result<Receipt, Spoiled>
-    ensures { member_of journal.new ≡ member_of journal.old }
-{
-    assert!(rt; !journal.is_spoiled());
-    assert!(rt; batch.node() == journal.node());
-    assert!(rt; batch.first() == journal.len());
-    assert!(rt; journal.room() >= batch.cost());
-    assert!(rt; journal.suits(batch.inputs()));
-    journal.commit(batch)
-}
-
 /// A new journal of node 1 of 3 on this device.
-pub fn formatted<D: Device + Drop>(rt: &impl Abort, device: D) -> Journal<D>
-    ensures { (member_of result).n ≡ 3 }
-{
+pub fn formatted<D: Device + Drop>(rt: &impl Abort, device: D) -> Journal<D> {
     let Ok(journal) = Journal::format(device, NodeNo::first(), 3, CAPACITY) else {
         panic!(rt; "the device works");
     };
@@ -82,65 +64,25 @@ pub fn formatted<D: Device + Drop>(rt: &impl Abort, device: D) -> Journal<D>
 }
 
 /// Makes the Stand durable, which is the journal's first input.
-pub fn takes_stand<D: Device>(rt: &impl Abort, alloc: Global, journal: &mut Journal<D>)
-    ensures { member_of journal.new ≡ member_of journal.old }
-{
+pub fn takes_stand<D: Device>(rt: &impl Abort, alloc: Global, journal: &mut Journal<D>) {
     let batch = batch_at_last(rt, alloc, &stand(rt));
-    is_durable(rt, lands(rt, journal, batch));
-}
-
-/// A new journal of node 1 of 3 in which the Stand is durable.
-fn committed(rt: &impl Abort, alloc: Global) -> Journal<MemDevice>
-    ensures { (member_of result).n ≡ 3 }
-{
-    let mut journal = formatted(rt, device_at_last(rt, alloc));
-    takes_stand(rt, alloc, &mut journal);
-    journal
-}
-
-/// The checkpoint of node 1 by this summary, which stands for these inputs too, from this number on.
-fn made(
-    rt: &impl Abort,
-    alloc: Global,
-    first: u64,
-    inputs: &[Input],
-    summary: Summary,
-) -> Result<Checkpoint, Refusal>
-    requires { IsSound 3 summary }
-    ensures { IfOk result (λ made. IsSound 3 (base_by made)) }
-{
-    assert!(rt; summary.floors.len() <= u32::MAX as usize);
-    assert!(rt; summary_len(&summary, LAYOUT) <= u64::from(u32::MAX));
-    assert!(rt; summary.keys.len() <= u32::MAX as usize);
-    Checkpoint::new(alloc, NodeNo::first(), first, inputs, summary)
-}
-
-/// Makes the checkpoint durable, which is the journal's next one.
-fn renews<D: Device>(
-    rt: &impl Abort,
-    journal: &mut Journal<D>,
-    checkpoint: Checkpoint,
-) -> Result<Receipt, Spoiled>
-    requires size { (member_of journal.old).n ≡ 3 }
-    requires sound { IsSound 3 (base_by checkpoint) }
-    ensures { member_of journal.new ≡ member_of journal.old }
-{
     assert!(rt; !journal.is_spoiled());
-    assert!(rt; checkpoint.node() == journal.node());
-    assert!(rt; checkpoint.first() == journal.len());
-    assert!(rt; checkpoint.cost() <= journal.capacity());
-    assert!(rt; journal.epoch() < (1 << 40) - 1);
-    journal.checkpoint(checkpoint)
+    assert!(rt; batch.node() == journal.node());
+    assert!(rt; batch.first() == journal.len());
+    assert!(rt; journal.room() >= batch.cost());
+    assert!(rt; journal.suits(batch.inputs()));
+    is_durable(rt, journal.commit(batch));
 }
 
 /// The checkpoint of that node, which stands for that Stand.
 fn checkpoint(rt: &impl Abort, alloc: Global) -> Result<Checkpoint, Refusal>
     ensures { IfOk result (λ made. IsSound 3 (base_by made)) }
 {
-    match read_summary(alloc, &STOOD, 3, LAYOUT) {
-        Ok(base) => made(rt, alloc, 1, &[], base),
-        Err(refusal) => Err(refusal),
-    }
+    let summary = read_summary(alloc, &STOOD, 3, LAYOUT)?;
+    assert!(rt; summary.floors.len() <= u32::MAX as usize);
+    assert!(rt; summary_len(&summary, LAYOUT) <= u64::from(u32::MAX));
+    assert!(rt; summary.keys.len() <= u32::MAX as usize);
+    Checkpoint::new(alloc, NodeNo::first(), 1, &[], summary)
 }
 
 fn checkpoint_at_last(rt: &impl Abort, alloc: Global) -> Checkpoint
@@ -160,7 +102,12 @@ pub fn takes_checkpoint<D: Device>(rt: &impl Abort, alloc: Global, journal: &mut
     requires { (member_of journal.old).n ≡ 3 }
 {
     let checkpoint = checkpoint_at_last(rt, alloc);
-    is_durable(rt, renews(rt, journal, checkpoint));
+    assert!(rt; !journal.is_spoiled());
+    assert!(rt; checkpoint.node() == journal.node());
+    assert!(rt; checkpoint.first() == journal.len());
+    assert!(rt; checkpoint.cost() <= journal.capacity());
+    assert!(rt; journal.epoch() < (1 << 40) - 1);
+    is_durable(rt, journal.checkpoint(checkpoint));
 }
 
 /// The journal on the device, which comes back where the first call finds no memory.
@@ -191,8 +138,9 @@ pub fn is_opened(rt: &impl Abort, opening: &Opening, found: (u64, u64), inputs: 
 #[test]
 fn refused_growths(rt: HostRuntime) {
     let alloc = rt.alloc();
-    let device = committed(&rt, alloc).into_device();
-    let (mut journal, opening) = reopened_at_last(&rt, alloc, device);
+    let mut journal = formatted(&rt, device_at_last(&rt, alloc));
+    takes_stand(&rt, alloc, &mut journal);
+    let (mut journal, opening) = reopened_at_last(&rt, alloc, journal.into_device());
     is_opened(&rt, &opening, (1, 0), &stand(&rt));
     drop(opening);
     takes_checkpoint(&rt, alloc, &mut journal);
