@@ -13,14 +13,8 @@ fn snapshot(rt: &impl Abort, alloc: Global, core: &NodeCore) -> Vec<u8> {
     bytes
 }
 
-/// Node 2 of three, with a capacity, as these bytes have it.
-fn restored(rt: &impl Abort, alloc: Global, capacity: u32, bytes: &[u8]) -> NodeCore {
-    let room = Room {
-        layout: LAYOUT,
-        epoch: 1,
-        taken: bytes.len() as u64,
-        waits: false,
-    };
+/// Node 2 of three, with a capacity and this room, as these bytes have it.
+fn restored(rt: &impl Abort, alloc: Global, capacity: u32, room: Room, bytes: &[u8]) -> NodeCore {
     let from = read(rt, alloc, bytes);
     assert!(rt; from.floors.len() <= u32::MAX as usize);
     let core = NodeCore::restore(alloc, node(rt, 2), 3, capacity, room, &from);
@@ -75,7 +69,13 @@ fn show_alike(rt: &impl Abort, core: &NodeCore, other: &NodeCore) {
 fn accepts_alike(rt: &impl Abort, alloc: Global, core: &mut NodeCore, op: Op) {
     let input = input(rt, op);
     let bytes = snapshot(rt, alloc, core);
-    let mut other = restored(rt, alloc, 65_536, &bytes);
+    let room = Room {
+        layout: LAYOUT,
+        epoch: 1,
+        taken: bytes.len() as u64,
+        waits: false,
+    };
+    let mut other = restored(rt, alloc, 65_536, room, &bytes);
     show_alike(rt, core, &other);
     judge_alike(rt, core, &other);
     let effects = accept(rt, core, input);
@@ -89,7 +89,7 @@ fn accepts_alike(rt: &impl Abort, alloc: Global, core: &mut NodeCore, op: Op) {
 
 /// Each input of the history finds a node that is restored from its summary as good as the first one.
 fn goes_on(rt: &impl Abort, alloc: Global, ops: &[Op]) {
-    let mut core = fresh(rt, alloc, 3, 65_536);
+    let mut core = fresh(rt, alloc);
     for op in ops {
         accepts_alike(rt, alloc, &mut core, *op);
     }
@@ -132,50 +132,6 @@ fn a_restored_node_goes_on_as_the_first_one(rt: HostRuntime) {
     goes_on(&rt, rt.alloc(), &GAVE_UP);
 }
 
-// 42 bytes of counts. A key takes 5 and its name, 1 for its flags, 4 for a bid and 5 for a leader, a message 11 and its
-// name, and a floor 5 and its name.
-static LENGTHS: [(Op, u64); 9] = [
-    (Stand("red", 5, 30), 69),
-    (Take(0, Token("blue", 1, 7, 1)), 94),
-    (Acked(1), 80),
-    (Take(1, Token("red", 5, 30, 2)), 99),
-    (Take(2, Token("red", 5, 30, 2)), 99),
-    (Acked(3), 70),
-    (Retire("red", 5), 78),
-    (Take(3, Elected("red", 7, 40, 3)), 106),
-    (Retire("red", 7), 88),
-];
-
-#[test]
-fn a_snapshot_has_the_bytes_of_its_keys_and_its_window(rt: HostRuntime) {
-    let mut core = fresh(&rt, rt.alloc(), 3, 65_536);
-    assert!(rt; core.summary_len() == 42);
-    for row in &LENGTHS {
-        let (op, len) = *row;
-        accept_all(&rt, &mut core, &[op]);
-        assert!(rt; core.summary_len() == len);
-    }
-    drop(core);
-}
-
-/// Restored with this capacity from its snapshot of 69 bytes, the node judges a credit so.
-fn takes(rt: &impl Abort, alloc: Global, capacity: u32, bytes: &[u8], refused: Option<Refusal>) {
-    let core = restored(rt, alloc, capacity, bytes);
-    assert!(rt; core.used() == 69);
-    assert!(rt; core.admit(&input(rt, Acked(1))).err() == refused);
-    drop(core);
-}
-
-#[test]
-fn a_snapshot_takes_its_bytes_of_the_capacity(rt: HostRuntime) {
-    let core = after(&rt, rt.alloc(), 3, 65_536, &[Stand("red", 5, 30)]);
-    let bytes = snapshot(&rt, rt.alloc(), &core);
-    takes(&rt, rt.alloc(), 68, &bytes, Some(Refusal::Full));
-    takes(&rt, rt.alloc(), 84, &bytes, Some(Refusal::Full));
-    takes(&rt, rt.alloc(), 85, &bytes, None);
-    drop((core, bytes));
-}
-
 static WON: [Op; 2] = [Stand("red", 9, 5), Take(0, Token("red", 9, 5, 2))];
 
 /// What is asked, the layout and the number of the area in use, whether a Retire waits, the capacity, an input, and why it
@@ -195,7 +151,7 @@ const FULL: Option<Cause> = Some(Cause::Full);
 const LIMIT: Option<Cause> = Some(Cause::Limit);
 
 /// 100 bytes are taken, and the snapshot has 88. A floor of 8 bytes comes to it, or a key of 13 and a message of 14.
-static ROOMS: [Case; 16] = [
+static ROOMS: [Case; 17] = [
     ("a floor just fits", 2, 1, false, 96, GIVES_UP, None),
     ("one byte too long", 2, 1, false, 95, GIVES_UP, FULL),
     ("in layout 1", 1, 0, false, 96, GIVES_UP, None),
@@ -220,6 +176,7 @@ static ROOMS: [Case; 16] = [
     ("a second floor", 1, 0, true, 96, GIVES_UP, None),
     ("the newest layout", 3, LAST, true, 116, GIVES_UP, None),
     ("too many for it", 3, 1, true, 115, GIVES_UP, FULL),
+    ("less than is taken", 3, 1, false, 68, Acked(1), FULL),
 ];
 
 /// The node, restored from the snapshot with the room of the case, judges its input so.
@@ -231,13 +188,10 @@ fn has_room(rt: &impl Abort, alloc: Global, bytes: &[u8], case: &Case) {
         taken: 100,
         waits,
     };
-    let from = read(rt, alloc, bytes);
-    assert!(rt; from.floors.len() <= u32::MAX as usize);
-    let core = NodeCore::restore(alloc, node(rt, 2), 3, capacity, room, &from);
-    let core = core.expect(rt, "ample memory");
+    let core = restored(rt, alloc, capacity, room, bytes);
     let needs = core.needs_area() == (waits && layout < LAYOUT);
     let admits = core.admit(&input(rt, op)).err() == refusal(rt, cause);
-    drop((from, core));
+    drop(core);
     assert!(rt; needs && admits);
 }
 
@@ -245,7 +199,7 @@ fn has_room(rt: &impl Abort, alloc: Global, bytes: &[u8], case: &Case) {
 // snapshot behind it has to fit in, and an area has to be left for it.
 #[test]
 fn a_floor_has_room_in_earlier_layouts(rt: HostRuntime) {
-    let core = after(&rt, rt.alloc(), 3, 65_536, &WON);
+    let core = after(&rt, rt.alloc(), &WON);
     let bytes = snapshot(&rt, rt.alloc(), &core);
     for case in &ROOMS {
         has_room(&rt, rt.alloc(), &bytes, case);
