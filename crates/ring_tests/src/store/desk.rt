@@ -13,7 +13,6 @@ use std::alloc::{AllocFailed, AllocGlobal};
 use std::process::Abort;
 use test_rows::{Ask, Note, Op, Say, Sends};
 
-mod batches;
 mod growths;
 mod landing;
 mod receipts;
@@ -32,8 +31,6 @@ const OWN: Note = Note::Token("red", 5, 10, 1);
 enum Step {
     /// The request gets a ticket of this number, at the second call where the first finds no memory, which changes nothing.
     Asks(Ask, u64),
-    /// The request gets no ticket, for this cause, and nothing is accepted.
-    Refuses(Ask, No),
     /// The ticket is redeemed with this reply, and the stub has the question, the number and the reply.
     Redeems(usize, Say),
     /// The ticket is not redeemed, for this cause, and comes back.
@@ -55,12 +52,8 @@ enum Step {
     IsForeign(u8, &'static [Op], &'static [Op]),
     /// The receipt of what flies is not taken.
     LandsNot,
-    /// What flies is of this node, and is so many inputs behind so many. It never lands.
-    IsLost(u8, u64, usize),
-    /// A device fails with this one input, which was launched, and so does the desk.
+    /// A device fails with this one input, which was launched, and so does the desk, and no other desk that has the input.
     Fails(Op),
-    /// The device fails with the one input that waits, and so does the desk, and no other desk.
-    Spoils,
 }
 
 /// What a journal holds that summarises nothing: these inputs.
@@ -105,16 +98,6 @@ fn shown(desk: &Desk) -> ((usize, u64, u64), usize, bool) {
     (counts(desk), desk.open_tickets(), desk.is_open())
 }
 
-/// No ticket is given for the request, for this cause, and nothing changes.
-fn refuses(rt: &impl Abort, desk: &mut Desk, ask: Ask, cause: Refusal) {
-    let before = shown(desk);
-    match desk.submit(request(rt, ask)) {
-        Ok(_ticket) => panic!(rt; "a ticket"),
-        Err(refusal) => assert!(rt; refusal == cause),
-    }
-    assert!(rt; shown(desk) == before);
-}
-
 /// The ticket is not redeemed for this cause, and comes back.
 fn comes_back(rt: &impl Abort, desk: &mut Desk, ticket: Ticket, cause: Refusal) -> Ticket {
     let number = ticket.number();
@@ -150,14 +133,6 @@ fn launches_none(rt: &impl Abort, desk: &mut Desk, no: Option<No>) {
             Some(no) => assert!(rt; refusal == no.refusal()),
             None => panic!(rt; "{refusal}"),
         },
-    }
-}
-
-/// The desk has launched the spoiled batch, and fails.
-fn fails(rt: &impl Abort, desk: &mut Desk, spoiled: Spoiled) {
-    match desk.fail(spoiled) {
-        Ok(()) => assert!(rt; !desk.is_open()),
-        Err((_spoiled, refusal)) => panic!(rt; "{refusal}"),
     }
 }
 
@@ -216,7 +191,6 @@ impl Station {
     fn does<R: Abort + AllocGlobal>(&mut self, rt: &R, step: Step) {
         match step {
             Step::Asks(ask, number) => self.asks(rt, ask, number),
-            Step::Refuses(ask, no) => refuses(rt, &mut self.desk, ask, no.refusal()),
             Step::Redeems(place, say) => drop(self.redeems(rt, place, say)),
             Step::Returns(place, no) => self.returns(rt, place, no),
             Step::Forfeits(place) => self.forfeits(rt, place),
@@ -229,9 +203,7 @@ impl Station {
             Step::Lands(count, sends, tells) => self.lands(rt, count, sends, tells),
             Step::IsForeign(number, before, ops) => self.is_foreign(rt, number, before, ops),
             Step::LandsNot => self.lands_not(rt),
-            Step::IsLost(number, first, count) => self.is_lost(rt, (number, first, count)),
             Step::Fails(op) => self.fails(rt, op),
-            Step::Spoils => self.spoils(rt),
         }
     }
 

@@ -1,5 +1,7 @@
-// Which receipts a desk takes.
-use super::Step::{Asks, Fails, Forfeits, IsForeign, Lands, LandsNot, Launches, Redeems, Returns};
+// Which receipts a desk takes, and what it does once the device has failed.
+use super::Step::{
+    Asks, Fails, Forfeits, IsForeign, Lands, LandsNot, Launches, LaunchesNone, Redeems, Returns,
+};
 use super::*;
 use test_rows::Sends::{Carry, Credit};
 
@@ -45,6 +47,18 @@ fn spoiled<R: Abort + AllocGlobal>(rt: &R, op: Op) -> Spoiled {
     }
 }
 
+/// A desk that has not launched the spoiled batch does not fail by it.
+fn not_failed(rt: &impl Abort, other: &mut Desk, spoiled: Spoiled) -> Spoiled {
+    match other.fail(spoiled) {
+        Ok(()) => panic!(rt; "failed"),
+        Err((spoiled, refusal)) => {
+            assert!(rt; refusal == Refusal::Foreign);
+            assert!(rt; other.is_open());
+            spoiled
+        }
+    }
+}
+
 impl Station {
     /// The desk does not take a receipt of these inputs of this node, behind those before them.
     pub(super) fn is_foreign<R: Abort + AllocGlobal>(
@@ -64,10 +78,15 @@ impl Station {
         gives_back(rt, &mut self.desk, receipt);
     }
 
-    /// The desk, which has launched this one input, learns that the device failed.
+    /// The device fails with this one input. The desk, which has launched it, fails; another one, which has it, does not.
     pub(super) fn fails<R: Abort + AllocGlobal>(&mut self, rt: &R, op: Op) {
-        let spoiled = spoiled(rt, op);
-        fails(rt, &mut self.desk, spoiled);
+        let mut other = opened(rt, &[op]);
+        let spoiled = not_failed(rt, &mut other, spoiled(rt, op));
+        drop(other);
+        match self.desk.fail(spoiled) {
+            Ok(()) => assert!(rt; !self.desk.is_open()),
+            Err((_spoiled, refusal)) => panic!(rt; "{refusal}"),
+        }
     }
 }
 
@@ -100,11 +119,12 @@ fn of_the_batch_that_flies_alone(rt: HostRuntime) {
     plays(&rt, &THE_BATCH_THAT_FLIES);
 }
 
-static FAILED: [Step; 6] = [
+static FAILED: [Step; 7] = [
     Asks(STAND, 1),
     Launches(1),
     Fails(STOOD),
     LandsNot,
+    LaunchesNone(Some(No::Failed)),
     Returns(0, No::Failed),
     Forfeits(0),
 ];
