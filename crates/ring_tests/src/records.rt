@@ -1,7 +1,6 @@
 // What no clause says of ring_records, and that its definitions say what is meant.
 mod growths;
 mod records;
-mod rows;
 mod snapshots;
 mod texts;
 mod values;

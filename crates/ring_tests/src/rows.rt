@@ -2,11 +2,11 @@
 ghost use Rattle.ring_records.specs.Snapshot.{IsSound};
 
 use ring_records::{
-    Candidate, Input, Key, LAYOUT, Msg, NodeNo, Refusal, Summary, read_summary, write_summary,
+    Candidate, Input, Key, LAYOUT, Msg, NodeNo, Summary, read_summary, write_summary,
 };
 use std::alloc::Global;
 use std::process::Abort;
-use test_rows::{Cause, Note, Op};
+use test_rows::{Note, Op};
 
 pub fn node(rt: &impl Abort, number: u8) -> NodeNo {
     NodeNo::new(number).expect(rt, "a node")
@@ -47,14 +47,6 @@ pub fn inputs(rt: &impl Abort, alloc: Global, ops: &[Op]) -> Vec<Input> {
         inputs.push(input(rt, *op)).expect(rt, "ample memory");
     }
     inputs
-}
-
-/// The refusal for this cause, or none.
-pub fn refusal(rt: &impl Abort, cause: Option<Cause>) -> Option<Refusal> {
-    match cause {
-        Some(cause) => Some(cause.refusal().expect(rt, "a cause")),
-        None => None,
-    }
 }
 
 /// The snapshot of this summary.

@@ -134,9 +134,9 @@ fn a_restored_node_goes_on_as_the_first_one(rt: HostRuntime) {
 
 static WON: [Op; 2] = [Stand("red", 9, 5), Take(0, Token("red", 9, 5, 2))];
 
-/// What is asked, the layout and the number of the area in use, whether a Retire waits, the capacity, an input, and why it
-/// is refused.
-type Case = (&'static str, u8, u64, bool, u32, Op, Option<Cause>);
+/// What is asked, the layout and the number of the area in use, whether a Retire waits, the capacity, an input, and the
+/// number of its refusal, or 0 where it is admitted.
+type Case = (&'static str, u8, u64, bool, u32, Op, u8);
 
 const LAST: u64 = EPOCHS - 1;
 
@@ -146,42 +146,38 @@ const TOO_HIGH: Op = Retire("red", 10);
 
 const STANDS: Op = Stand("red", 10, 5);
 
-const FULL: Option<Cause> = Some(Cause::Full);
+const FULL: u8 = 7;
 
-const LIMIT: Option<Cause> = Some(Cause::Limit);
+const LIMIT: u8 = 6;
+
+const UNDECIDED: u8 = 26;
+
+const NONE: u8 = 0;
 
 /// 100 bytes are taken, and the snapshot has 88. A floor of 8 bytes comes to it, or a key of 13 and a message of 14.
 static ROOMS: [Case; 17] = [
-    ("a floor just fits", 2, 1, false, 96, GIVES_UP, None),
+    ("a floor just fits", 2, 1, false, 96, GIVES_UP, NONE),
     ("one byte too long", 2, 1, false, 95, GIVES_UP, FULL),
-    ("in layout 1", 1, 0, false, 96, GIVES_UP, None),
+    ("in layout 1", 1, 0, false, 96, GIVES_UP, NONE),
     ("too long in layout 1", 1, 0, false, 95, GIVES_UP, FULL),
-    ("one area is left", 2, LAST - 1, false, 96, GIVES_UP, None),
+    ("one area is left", 2, LAST - 1, false, 96, GIVES_UP, NONE),
     ("no area is left", 2, LAST, false, 96, GIVES_UP, LIMIT),
     ("6 before 7", 2, LAST, false, 95, GIVES_UP, LIMIT),
-    (
-        "26 before 6",
-        2,
-        LAST,
-        false,
-        95,
-        TOO_HIGH,
-        Some(Cause::Undecided),
-    ),
-    ("a Stand just fits", 2, LAST, false, 120, STANDS, None),
+    ("26 before 6", 2, LAST, false, 95, TOO_HIGH, UNDECIDED),
+    ("a Stand just fits", 2, LAST, false, 120, STANDS, NONE),
     ("a Stand too many", 2, 1, false, 119, STANDS, FULL),
-    ("it fits behind one", 2, 1, true, 115, STANDS, None),
+    ("it fits behind one", 2, 1, true, 115, STANDS, NONE),
     ("too long behind one", 2, 1, true, 114, STANDS, FULL),
     ("no area behind one", 2, LAST, true, 120, STANDS, LIMIT),
-    ("a second floor", 1, 0, true, 96, GIVES_UP, None),
-    ("the newest layout", 3, LAST, true, 116, GIVES_UP, None),
+    ("a second floor", 1, 0, true, 96, GIVES_UP, NONE),
+    ("the newest layout", 3, LAST, true, 116, GIVES_UP, NONE),
     ("too many for it", 3, 1, true, 115, GIVES_UP, FULL),
     ("less than is taken", 3, 1, false, 68, Acked(1), FULL),
 ];
 
 /// The node, restored from the snapshot with the room of the case, judges its input so.
 fn has_room(rt: &impl Abort, alloc: Global, bytes: &[u8], case: &Case) {
-    let (name, layout, epoch, waits, capacity, op, cause) = *case;
+    let (_what, layout, epoch, waits, capacity, op, refused) = *case;
     let room = Room {
         layout,
         epoch,
@@ -190,9 +186,12 @@ fn has_room(rt: &impl Abort, alloc: Global, bytes: &[u8], case: &Case) {
     };
     let core = restored(rt, alloc, capacity, room, bytes);
     let needs = core.needs_area() == (waits && layout < LAYOUT);
-    let admits = core.admit(&input(rt, op)).err() == refusal(rt, cause);
+    let number = match core.admit(&input(rt, op)) {
+        Ok(()) => NONE,
+        Err(refusal) => refusal.number(),
+    };
     drop(core);
-    assert!(rt; needs && admits);
+    assert!(rt; needs && number == refused);
 }
 
 // In an area of an earlier layout a Retire, and each input behind one that waits, takes no byte of the capacity: the

@@ -1,6 +1,6 @@
 // Records byte for byte, and each fault at its border.
 use crate::rows::input;
-use ring_records::{GroupName, Input, RecordFault, Refusal, read_record, write_record};
+use ring_records::{Input, RecordFault, read_record, write_record};
 use std::process::Abort;
 use test_rows::Note::{Elected, Token};
 use test_rows::Op::{self, Acked, Retire, Stand, Take};
@@ -71,18 +71,6 @@ fn goes_there_and_back(rt: &impl Abort, row: &Row) {
     begins_with(rt, want, &input, size);
 }
 
-#[test]
-fn record_of_a_stand(rt: HostRuntime) {
-    goes_there_and_back(&rt, &STAND_RED);
-}
-
-#[test]
-fn longest_record(rt: HostRuntime) {
-    goes_there_and_back(&rt, &LONGEST);
-    let longer = GroupName::read(b"abcdefghijklmnopq");
-    assert!(rt; longer.err() == Some(Refusal::BadName));
-}
-
 static EACH_KIND: [Row; 5] = [STAND_RED, LONGEST, ELECTED_RED, ACKED, RETIRE_RED];
 
 #[test]
@@ -114,7 +102,7 @@ fn a_prefix_is_short(rt: HostRuntime) {
 }
 
 /// Bytes, and their first fault.
-static FAULTS: [(&[u8], RecordFault); 20] = [
+static FAULTS: [(&[u8], RecordFault); 28] = [
     (b"\x00", RecordFault::Kind),
     (b"\x06", RecordFault::Kind),
     (b"\xFF", RecordFault::Kind),
@@ -123,13 +111,23 @@ static FAULTS: [(&[u8], RecordFault); 20] = [
     (b"\x01\x11abcdefghijklmnopq", RecordFault::Name),
     (b"\x01\x03re", RecordFault::Short),
     (b"\x01\x03Red", RecordFault::Name),
+    (b"\x01\x03rEd", RecordFault::Name),
     (b"\x01\x031ed", RecordFault::Name),
+    (b"\x01\x021a", RecordFault::Name),
+    (b"\x01\x02-a", RecordFault::Name),
+    (b"\x01\x04re d", RecordFault::Name),
+    (b"\x01\x04re_d", RecordFault::Name),
     (b"\x01\x03r_d\x00\x00\x00\x00", RecordFault::Name),
     (b"\x01\x03red\x00\x00\x00\x00", RecordFault::Number),
     (b"\x01\x03red\x3B\x9A\xC9\xFF", RecordFault::Short),
     (b"\x01\x03red\x3B\x9A\xCA\x00", RecordFault::Number),
+    (b"\x01\x03red\xFF\xFF\xFF\xFF", RecordFault::Number),
     (
         b"\x01\x03red\x00\x00\x00\x05\x3B\x9A\xCA\x00",
+        RecordFault::Number,
+    ),
+    (
+        b"\x01\x03red\x00\x00\x00\x05\xFF\xFF\xFF\xFF",
         RecordFault::Number,
     ),
     (
@@ -138,6 +136,10 @@ static FAULTS: [(&[u8], RecordFault); 20] = [
     ),
     (
         b"\x03\x00\x00\x00\x00\x00\x00\x00\x00\x01a\x00\x00\x00\x01\x00\x00\x00\x00\x11",
+        RecordFault::Number,
+    ),
+    (
+        b"\x03\x00\x00\x00\x00\x00\x00\x00\x00\x01a\x00\x00\x00\x01\x00\x00\x00\x00\xFF",
         RecordFault::Number,
     ),
     (b"\x05\x00", RecordFault::Name),
@@ -166,4 +168,8 @@ fn the_ends_of_the_ranges_are_read(rt: HostRuntime) {
     is_read(&rt, least, Stand("a", 1, 0));
     let most = b"\x01\x02z-\x3B\x9A\xC9\xFF\x3B\x9A\xC9\xFF\x07";
     is_read(&rt, most, Stand("z-", 999_999_999, 999_999_999));
+    let ones = b"\x01\x03a-1\x00\x00\x00\x01\x00\x00\x00\x01";
+    is_read(&rt, ones, Stand("a-1", 1, 1));
+    let first = b"\x03\x00\x00\x00\x00\x00\x00\x00\x00\x02a-\x00\x00\x00\x01\x00\x00\x00\x00\x01";
+    is_read(&rt, first, Take(0, Elected("a-", 1, 0, 1)));
 }

@@ -1,12 +1,7 @@
-// Snapshots byte for byte, in each layout, and bytes that are none.
-use crate::records::rows::{bid, messages};
-use crate::rows::key;
-use ring_records::{
-    KeyState, Msg, Refusal, Summary, SummaryReader, read_summary, summary_len, write_summary,
-};
+// Snapshots byte for byte, in each layout, and bytes that are none, beside the rows of a node.
+use ring_records::{Refusal, Summary, SummaryReader, read_summary, summary_len, write_summary};
 use std::alloc::Global;
 use std::process::Abort;
-use test_rows::Note::Token;
 
 /// The snapshot in layout 2 of node 1 that stood for red 5 with bid 10, and whose token is not credited yet.
 static STOOD: [u8; 65] = [
@@ -21,18 +16,6 @@ static TOOK: [u8; 52] = [
     0, 0, 0, 0, 0, 2, 1, 0x61, 0, 0, 0, 1, 0, 1, 0x62, 0, 0, 0, 1, 0,
 ];
 
-/// The bytes with others at an offset; what does not fit in is left out.
-fn with(rt: &impl Abort, alloc: Global, bytes: &[u8], at: u8, put: &[u8]) -> Vec<u8> {
-    let mut edited = Vec::from_slice(alloc, bytes).expect(rt, "ample memory");
-    for (i, byte) in put.iter().enumerate() {
-        let place = at as usize + i;
-        if place < edited.len() {
-            edited[place] = *byte;
-        }
-    }
-    edited
-}
-
 /// The bytes are the summary's snapshot in this layout.
 fn is_written(rt: &impl Abort, alloc: Global, summary: &Summary, layout: u8, bytes: &[u8]) {
     assert!(rt; summary.keys.len() <= u32::MAX as usize);
@@ -42,68 +25,6 @@ fn is_written(rt: &impl Abort, alloc: Global, summary: &Summary, layout: u8, byt
     let written = write_summary(alloc, summary, layout).expect(rt, "ample memory");
     assert!(rt; written.as_slice() == bytes);
     drop(written);
-}
-
-/// The bytes are the summary's snapshot in layout 2.
-fn has_snapshot(rt: &impl Abort, alloc: Global, summary: &Summary, bytes: &[u8]) {
-    is_written(rt, alloc, summary, 2, bytes);
-}
-
-/// The bytes are read and written again as they are.
-fn goes_there_and_back(rt: &impl Abort, alloc: Global, bytes: &[u8]) {
-    let summary = read_summary(alloc, bytes, 3, 2).expect(rt, "a snapshot");
-    has_snapshot(rt, alloc, &summary, bytes);
-    drop(summary);
-}
-
-/// The window is the token of the node that stood.
-fn is_token_of_the_stand(rt: &impl Abort, alloc: Global, window: &[Msg]) {
-    let token = messages(rt, alloc, &[Token("red", 5, 10, 1)]);
-    assert!(rt; window == token.as_slice());
-    drop(token);
-}
-
-/// The summary is that of the node that stood.
-fn is_of_the_stand(rt: &impl Abort, alloc: Global, summary: &Summary) {
-    let counts = [summary.inputs, summary.taken, summary.credit, summary.sent];
-    assert!(rt; counts == [1, 0, 0, 1]);
-    assert!(rt; summary.stands == 1);
-    let state = KeyState {
-        key: key(rt, "red", 5),
-        stood: Some(bid(rt, 10)),
-        leader: None,
-    };
-    assert!(rt; summary.keys.as_slice() == [state].as_slice());
-    is_token_of_the_stand(rt, alloc, summary.window.as_slice());
-    assert!(rt; summary.floors.is_empty());
-}
-
-#[test]
-fn snapshot_bytes(rt: HostRuntime) {
-    let alloc = rt.alloc();
-    let mut bytes = [0; 69];
-    bytes[..65].copy_from_slice(&STOOD);
-    let summary = read_summary(alloc, &bytes, 3, 3).expect(&rt, "a snapshot");
-    is_of_the_stand(&rt, alloc, &summary);
-    is_written(&rt, alloc, &summary, 3, &bytes);
-    drop(summary);
-}
-
-#[test]
-fn snapshot_bytes_of_layout_2(rt: HostRuntime) {
-    let alloc = rt.alloc();
-    let summary = read_summary(alloc, &STOOD, 3, 2).expect(&rt, "a snapshot");
-    is_of_the_stand(&rt, alloc, &summary);
-    has_snapshot(&rt, alloc, &summary, &STOOD);
-    drop(summary);
-}
-
-#[test]
-fn snapshots_go_there_and_back(rt: HostRuntime) {
-    let alloc = rt.alloc();
-    for bytes in [STOOD.as_slice(), TOOK.as_slice(), [0; 38].as_slice()] {
-        goes_there_and_back(&rt, alloc, bytes);
-    }
 }
 
 /// The bytes are refused as damaged.
@@ -124,10 +45,13 @@ fn a_snapshot_is_whole(rt: HostRuntime) {
 }
 
 /// With the byte there the bytes are damaged, or they are the snapshot of another summary.
-fn is_none_or_another(rt: &impl Abort, alloc: Global, at: u8, byte: u8) {
-    let bytes = with(rt, alloc, &STOOD, at, &[byte]);
+fn is_none_or_another(rt: &impl Abort, alloc: Global, at: usize, byte: u8) {
+    let mut bytes = Vec::from_slice(alloc, &STOOD).expect(rt, "ample memory");
+    if at < bytes.len() {
+        bytes[at] = byte;
+    }
     match read_summary(alloc, &bytes, 3, 2) {
-        Ok(summary) => has_snapshot(rt, alloc, &summary, &bytes),
+        Ok(summary) => is_written(rt, alloc, &summary, 2, &bytes),
         Err(refusal) => assert!(rt; refusal == Refusal::Damaged(0)),
     }
 }
@@ -136,52 +60,9 @@ fn is_none_or_another(rt: &impl Abort, alloc: Global, at: u8, byte: u8) {
 fn each_byte_counts(rt: HostRuntime) {
     let alloc = rt.alloc();
     for (at, byte) in STOOD.iter().enumerate() {
-        is_none_or_another(&rt, alloc, at as u8, byte ^ 1);
-        is_none_or_another(&rt, alloc, at as u8, byte ^ 4);
-        is_none_or_another(&rt, alloc, at as u8, byte ^ 0x80);
-    }
-}
-
-static BREAKS: [(u8, &[u8]); 19] = [
-    (0, &[1]), // 2^56 + 1 inputs
-    (7, &[0]), // fewer inputs than Stands
-    (15, &[1]), // fewer inputs than Takes and Stands
-    (23, &[2]), // more credited than sent
-    (23, &[1]), // all is credited, and a message is left over
-    (31, &[2]), // more sent than inputs
-    (33, &[0]), // a Stand that is not counted
-    (33, &[2]), // a Stand too many
-    (34, &[255, 255, 255, 255]), // 2^32 - 1 keys
-    (37, &[0]), // the key is not counted
-    (38, &[0]), // no name
-    (39, &[0x52]), // a capital
-    (45, &[0]), // term 0
-    (46, &[0]), // no flag, and a bid
-    (46, &[5]), // another flag
-    (47, &[0x3B, 0x9A, 0xCA, 0]), // bid 1,000,000,000
-    (51, &[1]), // a kind of input that is no message
-    (64, &[0]), // node 0
-    (64, &[4]), // a node above the last
-];
-
-#[test]
-fn broken_snapshots(rt: HostRuntime) {
-    let alloc = rt.alloc();
-    for row in &BREAKS {
-        let (at, put) = *row;
-        let bytes = with(&rt, alloc, &STOOD, at, put);
-        is_damaged(&rt, alloc, &bytes);
-    }
-    is_damaged(&rt, alloc, &with(&rt, alloc, &[0; 40], 34, &[255; 4]));
-}
-
-#[test]
-fn keys_rise(rt: HostRuntime) {
-    let alloc = rt.alloc();
-    let rows: [(u8, u8); 3] = [(46, 0x61), (46, 0x60), (39, 0x63)];
-    for (at, byte) in rows {
-        let bytes = with(&rt, alloc, &TOOK, at, &[byte]);
-        is_damaged(&rt, alloc, &bytes);
+        is_none_or_another(&rt, alloc, at, byte ^ 1);
+        is_none_or_another(&rt, alloc, at, byte ^ 4);
+        is_none_or_another(&rt, alloc, at, byte ^ 0x80);
     }
 }
 
@@ -210,6 +91,8 @@ enum Begins {
     NoInputs,
     /// Those of the node that stood.
     Stood,
+    /// Those of the node that took two messages.
+    Took,
 }
 
 impl Begins {
@@ -218,12 +101,13 @@ impl Begins {
             Begins::Nothing => &[],
             Begins::NoInputs => &[0; 38],
             Begins::Stood => &STOOD,
+            Begins::Took => &TOOK,
         }
     }
 }
 
 /// The snapshots of layouts 1, 2 and 3, and bytes that are none there: what they begin with, and what stands behind it.
-static LAYOUTS: [(u8, Begins, &[u8], bool); 19] = [
+static LAYOUTS: [(u8, Begins, &[u8], bool); 20] = [
     (1, Begins::Nothing, &[], true),
     (1, Begins::Nothing, &[0], false),
     (1, Begins::NoInputs, &[], false),
@@ -231,6 +115,7 @@ static LAYOUTS: [(u8, Begins, &[u8], bool); 19] = [
     (2, Begins::Nothing, &[], false),
     (2, Begins::NoInputs, &[], true),
     (2, Begins::Stood, &[], true),
+    (2, Begins::Took, &[], true),
     (2, Begins::Stood, &[0, 0, 0, 0], false), // bytes left over
     (2, Begins::Stood, &[0, 0, 0, 1, 1, 0x61, 0, 0, 0, 9], false), // a floor
     (3, Begins::Nothing, &[0, 0, 0, 0], false),
@@ -359,22 +244,6 @@ fn floors_of_snapshots(rt: HostRuntime) {
         let (end, is_snapshot) = *row;
         is_judged(&rt, alloc, 3, Begins::Stood, end, is_snapshot);
     }
-}
-
-#[test]
-fn floors_are_told(rt: HostRuntime) {
-    let alloc = rt.alloc();
-    let mut bytes = Vec::from_slice(alloc, &STOOD).expect(&rt, "ample memory");
-    let end = [
-        0, 0, 0, 2, 1, 0x61, 0, 0, 0, 9, 3, 0x72, 0x65, 0x64, 0, 0, 0, 5,
-    ];
-    bytes.extend_from_slice(&end).expect(&rt, "ample memory");
-    let summary = read_summary(alloc, &bytes, 3, 3).expect(&rt, "a snapshot");
-    let floors = [key(&rt, "a", 9), key(&rt, "red", 5)];
-    assert!(rt; summary.floors.as_slice() == floors.as_slice());
-    let again = read_in_parts(&rt, alloc, &bytes, 3).expect(&rt, "a snapshot");
-    assert!(rt; again.floors.as_slice() == floors.as_slice());
-    drop((summary, again));
 }
 
 #[test]
