@@ -12,8 +12,6 @@ pub enum Question {
     Status(&'static [u8], &'static [u8], &'static [u8]),
     /// This target is answered with 200 and a text in which that stands.
     Target(&'static str, &'static [u8]),
-    /// So it is at last.
-    AtLast(&'static str, &'static [u8]),
     /// This is told at last of what is not well.
     NotWell(&'static [u8]),
 }
@@ -110,16 +108,6 @@ fn is_told<R: Net<Stream = TcpStream> + Clock + AllocGlobal>(
     }
 }
 
-/// Whether a target is answered so at last.
-fn is_answered_at_last<R: Net<Stream = TcpStream> + Clock + AllocGlobal>(
-    rt: &R,
-    port: u16,
-    target: &str,
-    text: &[u8],
-) -> bool {
-    is_at_last(rt, || is_told(rt, port, target, text))
-}
-
 /// Whether this is told at last of what is not well.
 pub fn is_told_at_last<R: Net<Stream = TcpStream> + Clock + AllocGlobal>(
     rt: &R,
@@ -139,7 +127,6 @@ pub fn is_answered<R: Net<Stream = TcpStream> + Clock + AllocGlobal>(
     match question {
         Question::Status(head, status, end) => has_status(rt, port, head, status, end),
         Question::Target(target, text) => is_told(rt, port, target, text),
-        Question::AtLast(target, text) => is_answered_at_last(rt, port, target, text),
         Question::NotWell(text) => is_told_at_last(rt, port, text),
     }
 }

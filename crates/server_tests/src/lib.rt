@@ -25,8 +25,6 @@ mod full;
 #[cfg(test)]
 mod held;
 #[cfg(test)]
-mod holders;
-#[cfg(test)]
 mod http;
 #[cfg(test)]
 mod hub;

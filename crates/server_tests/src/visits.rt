@@ -6,7 +6,6 @@ use crate::doors::{
     is_closed_dripping, is_kept_asking, is_left_refused, keeps_a_door, side_by_side,
 };
 use crate::full::{is_filled_at_rest, is_filled_by_others};
-use crate::holders::holds_all;
 use crate::http::{Question, is_answered};
 use crate::news::short_sessions;
 use crate::numbers::{fit_at_last, leave_their_places};
@@ -58,8 +57,6 @@ pub enum Visit {
     StandsUntilItFails(u16),
     /// It stands for 250 terms, without a look at the answers, until the operator at that port is told this.
     StandsUntil(u16, u16, &'static [u8]),
-    /// It holds 1,000 locks by one session, as an operator is told at that port.
-    HoldsAll(u16, u16),
     /// Two clients hold the doors, and others are answered all the same, as an operator is told at that port.
     KeepsADoor(u16, u16),
     /// It sends lines that are refused, and is left.
@@ -148,7 +145,6 @@ fn comes_out<R: Net<Stream = TcpStream> + Clock + AllocGlobal>(
         Visit::IsShort(port, count) => short_sessions(rt, port, count),
         Visit::StandsUntilItFails(port) => stands_until_it_fails(rt, port),
         Visit::StandsUntil(port, told_at, text) => stands_until(rt, port, told_at, text),
-        Visit::HoldsAll(port, told_at) => holds_all(rt, port, told_at),
         Visit::KeepsADoor(port, told_at) => keeps_a_door(rt, port, told_at),
         Visit::IsRefused(port) => is_left_refused(rt, port),
         Visit::AsksOn(port) => is_kept_asking(rt, port),
