@@ -17,6 +17,7 @@ fn snapshot(rt: &impl Abort, alloc: Global, core: &NodeCore) -> Vec<u8> {
 fn restored(rt: &impl Abort, alloc: Global, capacity: u32, room: Room, bytes: &[u8]) -> NodeCore {
     let from = read(rt, alloc, bytes);
     assert!(rt; from.floors.len() <= u32::MAX as usize);
+    assert!(rt; room.taken <= u64::from(u32::MAX));
     let core = NodeCore::restore(alloc, node(rt, 2), 3, capacity, room, &from);
     drop(from);
     core.expect(rt, "ample memory")
