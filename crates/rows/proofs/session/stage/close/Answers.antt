@@ -11,4 +11,4 @@ unreachable-requires c =
     not_there (c.requires c.in-Some.ticket c.in-Some.is)
     (λ there.
     let here = subst (λ (d : DeskKept). IsHere d.view ticket there.0) (sym c.close.ensures.next) (record { node = there.1.node; run = there.1.run; own = there.1.own; question = there.1.question }) in
-    c.in-Err.ensures.foreign.1 there.0 here)
+    c.in-Err.ensures.forfeited.foreign.1 there.0 here)
