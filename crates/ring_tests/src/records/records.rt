@@ -1,6 +1,6 @@
 // Records byte for byte, and each fault at its border.
 use crate::rows::input;
-use ring_records::{Input, RecordFault, read_record, write_record};
+use ring_records::{GroupName, Input, RecordFault, Refusal, read_record, write_record};
 use std::process::Abort;
 use test_rows::Note::{Elected, Token};
 use test_rows::Op::{self, Acked, Retire, Stand, Take};
@@ -69,6 +69,18 @@ fn goes_there_and_back(rt: &impl Abort, row: &Row) {
     is_record(rt, &out, size, want);
     begins_with(rt, &out, &input, size);
     begins_with(rt, want, &input, size);
+}
+
+#[test]
+fn record_of_a_stand(rt: HostRuntime) {
+    goes_there_and_back(&rt, &STAND_RED);
+}
+
+#[test]
+fn longest_record(rt: HostRuntime) {
+    goes_there_and_back(&rt, &LONGEST);
+    let longer = GroupName::read(b"abcdefghijklmnopq");
+    assert!(rt; longer.err() == Some(Refusal::BadName));
 }
 
 static EACH_KIND: [Row; 5] = [STAND_RED, LONGEST, ELECTED_RED, ACKED, RETIRE_RED];
