@@ -5,6 +5,7 @@ use disk_model::MemDevice;
 use std::alloc::AllocGlobal;
 use std::process::Abort;
 
+mod areas;
 mod cuts;
 mod files;
 mod growths;

@@ -1,23 +1,19 @@
 // An area that is read in pieces: one answer, however its bytes are cut, when it is told, and what is kept until then.
 ghost use Rattle.std.specs.Prelude.{◌≡◌, ◌+◌, ◌<◌, ◌≤◌, ◌^◌, length};
 
-use super::verdict::Verdict::Reads;
+use super::verdict::Verdict::{Damaged, Reads};
 use super::verdict::{Verdict, found};
-use super::{AREA_B, COMMITTED, FRESH, SECOND_AREA};
+use super::{AREA_B, COMMITTED, SECOND_AREA};
 use crate::store::journal::{commits_all, journal_with};
 use disk_model::{Device, FuseDevice, MemDevice};
 use gated_journal::{AreaReader, Fed};
-use ring_records::Refusal::Damaged;
 use ring_records::{LAYOUT, NodeNo, Refusal};
 use std::alloc::AllocGlobal;
 use std::process::Abort;
 use test_rows::{Note, Op};
 
-/// Bytes that are changed, and what is read then.
-type Row = (&'static [(u64, u8)], Verdict);
-
 /// How many inputs are read of an area, those that are summarised among them, and the offset of the closed gate.
-type Answer = Result<(u64, u64), Refusal>;
+pub type Answer = Result<(u64, u64), Refusal>;
 
 /// What the reader makes of the next bytes, at the second call where the first finds no memory.
 fn feeds_at_last(reader: &mut AreaReader, piece: &[u8]) -> Result<Fed, Refusal>
@@ -99,31 +95,31 @@ fn refused_growths(rt: HostRuntime) {
 static TOLD: [(&[(u64, u8)], usize, Verdict); 21] = [
     (&[], 76, Reads(1, 1)),
     // A closed gate, another layout, an epoch that is too great: once the 14 bytes of the head are there.
-    (&[(16, 0)], 13, Verdict::Damaged(16)),
-    (&[(17, 2)], 13, Verdict::Damaged(16)),
-    (&[(20, 1)], 13, Verdict::Damaged(16)),
+    (&[(16, 0)], 13, Damaged(16)),
+    (&[(17, 2)], 13, Damaged(16)),
+    (&[(20, 1)], 13, Damaged(16)),
     // A snapshot of 0, of 37 and of 41 bytes, and one of 4 GB, once 38 bytes behind the number of floors are no part of it.
-    (&[(29, 0)], 13, Verdict::Damaged(16)),
-    (&[(29, 37)], 50, Verdict::Damaged(16)),
-    (&[(29, 41)], 54, Verdict::Damaged(16)),
-    (&[(26, 255)], 93, Verdict::Damaged(16)),
+    (&[(29, 0)], 13, Damaged(16)),
+    (&[(29, 37)], 50, Damaged(16)),
+    (&[(29, 41)], 54, Damaged(16)),
+    (&[(26, 255)], 93, Damaged(16)),
     // More credited than sent, once the counts are there, and a Take among no inputs and a floor, once all is there.
-    (&[(53, 1)], 51, Verdict::Damaged(16)),
-    (&[(45, 1)], 55, Verdict::Damaged(16)),
-    (&[(71, 1)], 55, Verdict::Damaged(16)),
+    (&[(53, 1)], 51, Damaged(16)),
+    (&[(45, 1)], 55, Damaged(16)),
+    (&[(71, 1)], 55, Damaged(16)),
     // Frames of 0, 65 and 257 inputs, and an input of 36 bytes and of 4 GB, once both numbers are there.
-    (&[(74, 0)], 62, Verdict::Damaged(72)),
-    (&[(74, 65)], 62, Verdict::Damaged(72)),
-    (&[(73, 1)], 62, Verdict::Damaged(72)),
-    (&[(78, 36)], 62, Verdict::Damaged(72)),
-    (&[(75, 255)], 62, Verdict::Damaged(72)),
+    (&[(74, 0)], 62, Damaged(72)),
+    (&[(74, 65)], 62, Damaged(72)),
+    (&[(73, 1)], 62, Damaged(72)),
+    (&[(78, 36)], 62, Damaged(72)),
+    (&[(75, 255)], 62, Damaged(72)),
     // One of 35 bytes and of 12, and another kind, once the records are there.
-    (&[(78, 35)], 97, Verdict::Damaged(72)),
-    (&[(78, 12)], 74, Verdict::Damaged(72)),
-    (&[(79, 6)], 75, Verdict::Damaged(72)),
+    (&[(78, 35)], 97, Damaged(72)),
+    (&[(78, 12)], 74, Damaged(72)),
+    (&[(79, 6)], 75, Damaged(72)),
     // A Retire, once the closed gate behind it is there, and one of number 0, once its record is.
     (&[(78, 9), (79, 5)], 72, Reads(1, 1)),
-    (&[(78, 9), (79, 5), (87, 0)], 71, Verdict::Damaged(72)),
+    (&[(78, 9), (79, 5), (87, 0)], 71, Damaged(72)),
 ];
 
 #[test]
@@ -190,7 +186,7 @@ fn the_bytes_that_are_kept(rt: HostRuntime) {
 }
 
 /// In pieces of any length it reads as whole.
-fn in_pieces(rt: &(impl Abort + AllocGlobal), layout: u8, offset: u64, area: &[u8]) -> Answer
+pub fn in_pieces(rt: &(impl Abort + AllocGlobal), layout: u8, offset: u64, area: &[u8]) -> Answer
     requires { offset + length area.now < 2 ^ 64 }
 {
     let (whole, _) = fed(rt, layout, offset, area, &[5000]);
@@ -202,7 +198,7 @@ fn in_pieces(rt: &(impl Abort + AllocGlobal), layout: u8, offset: u64, area: &[u
 }
 
 /// Changes the bytes of an image, of which some may be behind its end.
-fn change(image: &mut [u8], changes: &[(u64, u8)]) {
+pub fn change(image: &mut [u8], changes: &[(u64, u8)]) {
     for (at, byte) in changes {
         let at = *at as usize;
         if at < image.len() {
@@ -212,171 +208,12 @@ fn change(image: &mut [u8], changes: &[(u64, u8)]) {
 }
 
 /// How many inputs were read, or the fault.
-fn count(answer: Answer) -> Result<u64, Refusal> {
+pub fn count(answer: Answer) -> Result<u64, Refusal> {
     match answer {
         Ok((inputs, _)) => Ok(inputs),
         Err(refusal) => Err(refusal),
     }
 }
-
-/// With these changes area A of the image has one answer.
-fn one_area(rt: &(impl Abort + AllocGlobal), image: &mut [u8], row: &Row)
-    requires size { (16 ≤ length image.old) × (length image.old < 2 ^ 32) }
-{
-    change(image, row.0);
-    let area = in_pieces(rt, LAYOUT, 16, &image[16..]);
-    assert!(rt; count(area) == count(row.1.answer()));
-}
-
-/// What is told of a device with two areas is told of one of them, or none is chosen.
-fn two_areas(rt: &(impl Abort + AllocGlobal), row: &Row) {
-    let mut image = [0; 4211];
-    image[..93].copy_from_slice(&COMMITTED);
-    image[4127..].copy_from_slice(&SECOND_AREA);
-    change(&mut image, row.0);
-    let a = count(in_pieces(rt, LAYOUT, 16, &image[16..]));
-    let b = count(in_pieces(rt, LAYOUT, AREA_B, &image[4127..]));
-    let told = count(row.1.answer());
-    assert!(rt; told == a || told == b || told == Err(Damaged(16)));
-}
-
-/// Changes of area A of a journal with one frame.
-static ONE_AREA: [Row; 38] = [
-    // The gate and the layout of the area.
-    (&[(16, 0)], Verdict::Damaged(16)),
-    (&[(16, 2)], Verdict::Damaged(16)),
-    (&[(17, 1)], Verdict::Damaged(16)),
-    (&[(17, 2)], Verdict::Damaged(16)),
-    (&[(17, 4)], Verdict::Damaged(16)),
-    // Epochs of 0, 2^39, 2^40 and 2^56.
-    (&[(25, 0)], Reads(1, 0)),
-    (&[(21, 0x80), (25, 0)], Reads(1, 1 << 39)),
-    (&[(20, 1)], Verdict::Damaged(16)),
-    (&[(18, 1)], Verdict::Damaged(16)),
-    // A size one too small, one too large, all there is, one more, and far too large.
-    (&[(29, 41)], Verdict::Damaged(16)),
-    (&[(29, 43)], Verdict::Damaged(16)),
-    (&[(29, 63)], Verdict::Damaged(16)),
-    (&[(29, 64)], Verdict::Damaged(16)),
-    (&[(26, 255)], Verdict::Damaged(16)),
-    // A snapshot of one input, of a Take among none, of a key that is not there, of a floor.
-    (&[(37, 1)], Reads(2, 1)),
-    (&[(45, 1)], Verdict::Damaged(16)),
-    (&[(67, 1)], Verdict::Damaged(16)),
-    (&[(71, 1)], Verdict::Damaged(16)),
-    // A first gate that is closed by another byte; counts of 0, 2, 65 and 257.
-    (&[(72, 7)], Reads(0, 1)),
-    (&[(74, 0)], Verdict::Damaged(72)),
-    (&[(74, 2)], Verdict::Damaged(72)),
-    (&[(74, 65)], Verdict::Damaged(72)),
-    (&[(73, 1)], Verdict::Damaged(72)),
-    // A length one too small, one too large, and far too large.
-    (&[(78, 12)], Verdict::Damaged(72)),
-    (&[(78, 14)], Verdict::Damaged(72)),
-    (&[(75, 1)], Verdict::Damaged(72)),
-    // A record's kind, name and term; and a next gate with nothing behind it.
-    (&[(79, 6)], Verdict::Damaged(72)),
-    (&[(81, b'R')], Verdict::Damaged(72)),
-    (&[(87, 0)], Verdict::Damaged(72)),
-    (&[(92, 1)], Verdict::Damaged(92)),
-    // Two faults: the first one.
-    (&[(20, 1), (74, 0)], Verdict::Damaged(16)),
-    // A Retire, and one with bytes behind it; numbers of 0, of 10^9 - 1 and of 10^9; the shortest, and a name of no letters.
-    (&[(78, 9), (79, 5)], Reads(1, 1)),
-    (&[(79, 5)], Verdict::Damaged(72)),
-    (&[(78, 9), (79, 5), (87, 0)], Verdict::Damaged(72)),
-    (
-        &[
-            (78, 9),
-            (79, 5),
-            (84, 0x3B),
-            (85, 0x9A),
-            (86, 0xC9),
-            (87, 0xFF),
-        ],
-        Reads(1, 1),
-    ),
-    (
-        &[(78, 9), (79, 5), (84, 0x3B), (85, 0x9A), (86, 0xCA)],
-        Verdict::Damaged(72),
-    ),
-    (
-        &[(78, 7), (79, 5), (80, 1), (82, 0), (83, 0), (85, 5)],
-        Reads(1, 1),
-    ),
-    (
-        &[
-            (78, 6),
-            (79, 5),
-            (80, 0),
-            (81, 0),
-            (82, 0),
-            (83, 0),
-            (84, 5),
-        ],
-        Verdict::Damaged(72),
-    ),
-];
-
-/// Changes of the same with area B behind it, which is read, and what is read of the device then.
-static TWO_AREAS: [Row; 17] = [
-    // Area B in epoch 2, in A's epoch, and in an earlier one.
-    (&[], Reads(1, 2)),
-    (&[(4136, 1)], Verdict::Damaged(16)),
-    (&[(4136, 0)], Reads(1, 1)),
-    // One of them does not count, or none.
-    (&[(4127, 0)], Reads(1, 1)),
-    (&[(4127, 7)], Reads(1, 1)),
-    (&[(4128, 1)], Reads(1, 1)),
-    (&[(4128, 4)], Reads(1, 1)),
-    (&[(16, 0)], Reads(1, 2)),
-    (&[(17, 4), (4136, 0)], Reads(1, 0)),
-    (&[(16, 0), (4127, 0)], Verdict::Damaged(16)),
-    // The one that is read is broken: its epoch, its size, its snapshot, its first gate.
-    (&[(4131, 1)], Verdict::Damaged(4127)),
-    (&[(20, 1)], Verdict::Damaged(16)),
-    (&[(4140, 68)], Verdict::Damaged(4127)),
-    (&[(4140, 70)], Verdict::Damaged(4127)),
-    (&[(4205, 4)], Verdict::Damaged(4127)),
-    (&[(4210, 1)], Verdict::Damaged(4210)),
-    // The one that is not read is broken.
-    (&[(26, 255), (74, 0)], Reads(1, 2)),
-];
-
-/// Changes of the area of a new journal.
-static NEW_AREA: [Row; 6] = [
-    (&[], Reads(0, 1)),
-    // The gate and the layout of the area.
-    (&[(16, 0)], Verdict::Damaged(16)),
-    (&[(17, 1)], Verdict::Damaged(16)),
-    // A snapshot that is one byte too short, and one too long.
-    (&[(29, 41)], Verdict::Damaged(16)),
-    (&[(29, 43)], Verdict::Damaged(16)),
-    // An open gate with nothing behind it.
-    (&[(72, 1)], Verdict::Damaged(72)),
-];
-
-#[test]
-fn each_area_has_one_answer(rt: HostRuntime) {
-    for row in &ONE_AREA {
-        let mut image = COMMITTED;
-        one_area(&rt, &mut image, row);
-    }
-    for row in &TWO_AREAS {
-        two_areas(&rt, row);
-    }
-    for row in &NEW_AREA {
-        let mut image = FRESH;
-        one_area(&rt, &mut image, row);
-    }
-}
-
-/// An area of layout 2 with the frame of a Retire behind its snapshot.
-static EARLIER_RETIRE: [u8; 69] = [
-    1, 2, 0, 0, 0, 0, 0, 0, 0, 1, 0, 0, 0, 0x26, 0, 0, 0, 0, 0, 0, 0, 0, 0, 0, 0, 0, 0, 0, 0, 0, 0,
-    0, 0, 0, 0, 0, 0, 0, 0, 0, 0, 0, 0, 0, 0, 0, 0, 0, 0, 0, 0, 0, 1, 0, 1, 0, 0, 0, 9, 5, 3, 0x72,
-    0x65, 0x64, 0, 0, 0, 5, 0,
-];
 
 #[test]
 fn frames_of_the_shortest_inputs(rt: HostRuntime) {
@@ -387,11 +224,6 @@ fn frames_of_the_shortest_inputs(rt: HostRuntime) {
     assert!(rt; device.read_at(0, &mut image).is_ok());
     assert!(rt; in_pieces(&rt, LAYOUT, 16, &image[16..]) == Ok((256, 1892)));
     assert!(rt; found(rt.alloc(), device.into_inner()) == Ok((256, 1)));
-}
-
-#[test]
-fn an_area_of_layout_2_with_a_retire_is_damaged(rt: HostRuntime) {
-    assert!(rt; in_pieces(&rt, 2, 16, &EARLIER_RETIRE) == Err(Damaged(68)));
 }
 
 /// Numbers that look random, from a seed that is not 0.
