@@ -25,14 +25,15 @@
 # runbook: as root, the commands of the runbook in docs/OPERATING.md, from top to bottom, with the Debian package.
 # alerts: each alert is fired by what bin/ringd tells, for promtool.
 # copies: cinoweta backup copies the folder of bin/ringd under load, and each copy is started and asked.
-# hangs: one sync of bin/ringd takes 14 seconds, and the status port and standard error say so.
+# hangs: one sync of bin/ringd takes 20 seconds: the status port and standard error say so, and the other nodes answer.
+# failed: a node of bin/ringd whose disk failed is sent 100,000 messages, and keeps none.
 # starts: bin/ringd is started with standard streams closed, with few descriptors, and at other hosts; as root, beside a folder that is read only.
 # faults, growths: each call of the system that a ring makes fails in turn, and each growth of the programs is refused.
 # flips: each byte of the files of a ring by bin/ringd is changed, one at a time: whether a start refuses it, or what is answered then.
 # full, uses: the nodes of a ring are filled and retired, again and again; many groups elect each minute for an hour.
 # load: bin/ringd under load; LOAD has further words of bench/load.py.
 .PHONY: run test rows wrong_bodies bench clean always
-.PHONY: ringd install serve fencing clients picture pictures kills years earlier load short threads scrapes writeback syncs fuzz faults growths hangs flips
+.PHONY: ringd install serve fencing clients picture pictures kills years earlier load short threads scrapes writeback syncs fuzz faults growths hangs flips failed
 .PHONY: starts docs unit image copies alerts deb runbook full uses hosts turns lost_host
 
 KINDS = console node ringd session settings
@@ -159,6 +160,9 @@ writeback: bin/ringd
 syncs: bin/ringd
 	@trials/makes.py --ringd bin/ringd
 	@trials/syncs.py --ringd bin/ringd
+
+failed: bin/ringd
+	@trials/failed.py $(FAILED)
 
 hangs: bin/ringd
 	@trials/hangs.py

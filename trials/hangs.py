@@ -1,11 +1,12 @@
 #!/usr/bin/env python3
 """hangs.py [--ringd PATH] [--pause SECONDS]
 
-One sync of a node hangs, from outside: a call of `fdatasync` that begins SECONDS later (14 by default). Meanwhile the status port of the
+One sync of a node hangs, from outside: a call of `fdatasync` that begins SECONDS later (20 by default). Meanwhile the status port of the
 ring is asked each half second. Before ten seconds are over `/health` says `well`, then that this node hangs, with 503, and `well` again
 once the sync is over; `/metrics` tells for how long the device has been busy, and `/leaders` who leads, though the Stand that waits for the
-sync holds a door of the node. It is then answered, and its leader is known. Once each it is told on standard error that the node hangs,
-and that it goes on: beside the status port, and again in a ring without one.
+sync holds a door of the node. It is then answered, and its leader is known. Meanwhile the other nodes answer each Stand within a second,
+and only what waits for a message of the node that hangs is held up: the leaders of those Stands, which each node knows behind it. Once
+each it is told on standard error that the node hangs, and that it goes on: beside the status port, and again in a ring without one.
 
   --ringd PATH   the server, `bin/ringd` by default.
 
@@ -28,7 +29,9 @@ from short import Failed, free_ports
 
 HANG = 10
 EARLY, LATE = 0.5, 2.0
-NODE = 2
+NODE, HOST = 2, "127.0.0.1"
+# Within so many seconds a node answers a Stand while another one hangs.
+PROMPT = 1.0
 WELL, HANGS = (200, "well\n", 0), (503, f"node {NODE} hangs\nhelp: see the disk\n", 1)
 
 
@@ -97,6 +100,40 @@ def hang(refuser: Refuser, pause: float) -> None:
         file.write(rest)
 
 
+class Others:
+    """Sessions at the nodes whose disks do not hang, which stand for one term of a group after the other."""
+
+    def __init__(self, port: int, pause: float) -> None:
+        self.sessions = {node: socket.create_connection((HOST, port + node - 1), pause + 10) for node in range(1, NODES + 1) if node != NODE}
+        self.term = 0
+        self.longest = 0.0
+
+    def stand(self) -> None:
+        """Each stands for the next term, and is answered at once; that nobody is known to lead is answered too."""
+        self.term += 1
+        for node, session in self.sessions.items():
+            begun = time.monotonic()
+            if (told := exchange(session, f"stand green {self.term} {node}")) != "stood":
+                raise Failed(f"while node {NODE} hangs node {node} tells {told!r}")
+            if (told := exchange(session, f"who green {self.term}")) != "none":
+                raise Failed(f"while node {NODE} hangs node {node} tells {told!r} of term {self.term}")
+            self.longest = max(self.longest, time.monotonic() - begun)
+        if self.longest > PROMPT:
+            raise Failed(f"while node {NODE} hangs a Stand elsewhere is answered behind {self.longest:.1f} s")
+
+    def end(self) -> None:
+        """Behind it each election comes to its end, and its leader is known at each node."""
+        until = time.monotonic() + 2 * LATE
+        for term in range(1, self.term + 1):
+            for node, session in self.sessions.items():
+                while (told := exchange(session, f"who green {term}")) == "none" and time.monotonic() < until:
+                    time.sleep(0.01)
+                if told != f"leader {NODES} {NODES}":
+                    raise Failed(f"behind it node {node} tells {told!r} of term {term}")
+        for session in self.sessions.values():
+            session.close()
+
+
 def watch(refuser: Refuser, port: int, status: int, pause: float) -> None:
     """Asks node 2 for a Stand whose sync hangs, and looks at what is told meanwhile."""
     if get(status, "/health") != (200, "well\n"):
@@ -108,20 +145,27 @@ def watch(refuser: Refuser, port: int, status: int, pause: float) -> None:
             time.sleep(0.01)
         # Behind an election the ring comes to rest.
         time.sleep(1)
+        others = Others(port, pause)
         hang(refuser, pause)
         begun = time.monotonic()
         session.sendall(b"stand red 5 10\n")
+        # The sync that hangs is that of this Stand.
+        time.sleep(EARLY)
         longest = 0
         while (passed := time.monotonic() - begun) < pause + 2 * LATE:
             seen = look(status, begun)
             judge(seen, pause)
             longest = max(longest, seen.writing)
+            if passed < pause - LATE:
+                others.stand()
             time.sleep(max(0.0, 0.5 - (time.monotonic() - begun - passed)))
         if (told := answer(session)) != "stood":
             raise Failed(f"the Stand is answered with {told!r}")
         if (told := exchange(session, "who red 5")) != f"leader {NODE} 10":
             raise Failed(f"behind it {told!r} is told")
+        others.end()
     print(f"a sync of {pause:.0f} s: told from the tenth second on, the device busy for {longest} s at most; then well, and `stood`")
+    print(f"meanwhile {len(others.sessions) * others.term} Stands at the other nodes were answered, within {others.longest:.2f} s, and behind it all had leaders")
 
 
 def stand(port: int, refuser: Refuser, pause: float) -> None:
@@ -170,7 +214,7 @@ def serve(ringd: str, pause: float, with_status: bool) -> None:
 def main() -> int:
     words = argparse.ArgumentParser(usage=__doc__)
     words.add_argument("--ringd", default="bin/ringd")
-    words.add_argument("--pause", type=float, default=14.0)
+    words.add_argument("--pause", type=float, default=20.0)
     said = words.parse_args()
     if not os.access(said.ringd, os.X_OK) or said.pause < HANG + 3:
         print("hangs.py: ringd is not there, or the pause is under 13 seconds", file=sys.stderr)
