@@ -8,7 +8,6 @@ folder is a copy named rt-edit-... The table of them is Markdown."""
 
 import collections
 import os
-import re
 import resource
 import signal
 import subprocess
@@ -19,8 +18,6 @@ PAUSE = 0.5
 TICKS = os.sysconf("SC_CLK_TCK")
 KINDS = ("proof", "tests", "edits")
 OTHER = ("", "other")
-# Where `rt ci NAME..` checks a crate.
-COPY = re.compile(r".*/rt-copy-[^/]+/repo/crates/\w+$")
 
 # A process that runs: its parent, its start, and its ticks with those of its children that ended and were waited for.
 Process = collections.namedtuple("Process", "parent start ticks")
@@ -54,7 +51,7 @@ def purpose(number, top):
     crate = words[words.index("--crate-name") + 1]
     if os.path.basename(folder).startswith("rt-edit-"):
         return crate, "edits"
-    if folder != f"{top}/crates/{crate}" and not COPY.match(folder):
+    if folder != f"{top}/crates/{crate}":
         return OTHER
     return crate, "tests" if "--test" in words else "proof"
 
