@@ -1,14 +1,16 @@
 //! All nodes of a ring, each in threads of its own.
+use crate::event::print_event;
 use crate::node::serve_node;
 use crate::post::Post;
 use crate::run_fault::RunFault;
 use crate::shared::Shared;
 use crate::site::Site;
-use crate::start_latch::{Shortage, StartLatch};
+use crate::start_latch::StartLatch;
 use crate::troubles::Troubles;
-use crate::watch::{News, Watch};
+use crate::watch::Watch;
 use disk_model::{Device, SystemFault};
 use log_lines::{Level, LogForm};
+use ring_news::{News, Shortage};
 use ring_records::{NodeNo, Shown};
 use ring_start::{Log, Place, print_fault};
 use ring_watch::{StatusPort, Tally};
@@ -184,8 +186,8 @@ fn tell_of_nodes<R: Wait + Clock, E: Write>(
                     return true;
                 }
             }
-            News::Event(event) => {
-                let _ = event.print(log.line(Level::Debug));
+            News::Happened(event) => {
+                let _ = print_event(log.line(Level::Debug), &event);
                 troubles.look_each_second(rt, shared, log);
             }
             News::LeftOut(count) => {

@@ -2,7 +2,8 @@
 use crate::post::Post;
 use crate::run_fault::RunFault;
 use crate::start_latch::StartLatch;
-use crate::watch::{Watch, place};
+use crate::watch::Watch;
+use ring_news::place;
 use ring_records::NodeNo;
 use ring_watch::{Reception, StatusPort, Tally};
 use std::alloc::Global;

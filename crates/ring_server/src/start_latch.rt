@@ -1,22 +1,8 @@
 //! Where the threads of a ring wait until all of them are there.
 use crate::run_fault::RunFault;
+use ring_news::{Shortage, Starting};
 use std::alloc::AllocError;
 use std::sync::{Condvar, Mutex, Wait};
-
-/// What a node lacks whose threads are not there.
-#[derive(Clone, Copy)]
-pub(crate) enum Shortage {
-    /// The system gave no thread.
-    Thread,
-    /// A growth was refused, or no place was left.
-    Memory,
-}
-
-impl From<AllocError> for Shortage {
-    fn from(_: AllocError) -> Shortage {
-        Shortage::Memory
-    }
-}
 
 impl From<Shortage> for RunFault {
     fn from(shortage: Shortage) -> RunFault {
@@ -25,14 +11,6 @@ impl From<Shortage> for RunFault {
             Shortage::Memory => RunFault::Memory(AllocError),
         }
     }
-}
-
-/// How far the start of a ring is.
-#[derive(Drop)]
-struct Starting {
-    awaited: usize,
-    shortage: Option<Shortage>,
-    serves: Option<bool>,
 }
 
 /// Each node tells once that its threads are there, or why they are not; then all are let go together, to serve or to
@@ -48,13 +26,8 @@ pub(crate) struct StartLatch {
 impl StartLatch {
     /// Of so many nodes that have told nothing yet.
     pub(crate) fn new(nodes: usize) -> StartLatch {
-        let stage = Starting {
-            awaited: nodes,
-            shortage: None,
-            serves: None,
-        };
         StartLatch {
-            stage: Mutex::new(stage),
+            stage: Mutex::new(Starting::new(nodes)),
             told: Condvar::new(),
             opened: Condvar::new(),
         }
@@ -62,25 +35,13 @@ impl StartLatch {
 
     /// A node is ready, or cannot start for want of this. Of several the first one stays.
     pub(crate) fn tell<R: Wait>(&self, rt: &R, outcome: Result<(), Shortage>) {
-        {
-            let mut guard = self.stage.lock(rt);
-            let stage = &mut *guard;
-            stage.awaited = stage.awaited.saturating_sub(1);
-            if stage.shortage.is_none() {
-                stage.shortage = outcome.err();
-            }
-        }
+        self.stage.lock(rt).tell(outcome);
         self.told.notify_all();
     }
 
     /// No node tells any more, for want of this.
     pub(crate) fn fail<R: Wait>(&self, rt: &R, shortage: Shortage) {
-        {
-            let mut guard = self.stage.lock(rt);
-            let stage = &mut *guard;
-            stage.awaited = 0;
-            stage.shortage = Some(shortage);
-        }
+        self.stage.lock(rt).fail(shortage);
         self.told.notify_all();
     }
 
@@ -88,16 +49,13 @@ impl StartLatch {
     pub(crate) fn wait_for_nodes<R: Wait>(&self, rt: &R) -> Result<(), Shortage> {
         let stage = self
             .told
-            .wait_while(rt, self.stage.lock(rt), |stage| stage.awaited > 0);
-        match stage.shortage {
-            Some(shortage) => Err(shortage),
-            None => Ok(()),
-        }
+            .wait_while(rt, self.stage.lock(rt), |stage| stage.is_awaited());
+        stage.outcome()
     }
 
     /// Lets all go, to serve or to end.
     pub(crate) fn open<R: Wait>(&self, rt: &R, serves: bool) {
-        self.stage.lock(rt).serves = Some(serves);
+        self.stage.lock(rt).open(serves);
         self.opened.notify_all();
     }
 
@@ -105,7 +63,7 @@ impl StartLatch {
     pub(crate) fn wait<R: Wait>(&self, rt: &R) -> bool {
         let stage = self
             .opened
-            .wait_while(rt, self.stage.lock(rt), |stage| stage.serves.is_none());
-        stage.serves == Some(true)
+            .wait_while(rt, self.stage.lock(rt), |stage| !stage.is_open());
+        stage.serves()
     }
 }

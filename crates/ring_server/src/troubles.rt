@@ -1,7 +1,7 @@
 //! What is told of the troubles of a ring's nodes while they serve.
 use crate::shared::Shared;
-use crate::watch::{Wants, place};
-use log_lines::{Level, Spell, Turn};
+use log_lines::{Level, Turn};
+use ring_news::{NodeTroubles, WantsTold, place};
 use ring_records::NodeNo;
 use ring_start::Log;
 use ring_status::hangs;
@@ -9,72 +9,28 @@ use std::io::Write;
 use std::sync::Wait;
 use std::time::{Clock, Instant};
 
-/// What is told of the troubles of a node.
-#[derive(Clone, Copy)]
-struct NodeTroubles {
-    hangs: Spell,
-    room: Spell,
-    memory: Spell,
-    stands: Spell,
-    has_failed: bool,
+/// Tells that its disk hangs, or goes on.
+fn tell_hang<C: Clock, E: Write>(log: &mut Log<'_, C, E>, node: NodeNo, turn: Option<Turn>) {
+    let _ = match turn {
+        Some(Turn::Begins) => { writeln!(log.line(Level::Warning), "ringd: node {node} hangs") }
+        Some(Turn::Ends) => { writeln!(log.line(Level::Warning), "ringd: node {node} goes on") }
+        None => Ok(()),
+    };
 }
 
-impl NodeTroubles {
-    fn new() -> NodeTroubles {
-        NodeTroubles {
-            hangs: Spell::new(),
-            room: Spell::new(),
-            memory: Spell::new(),
-            stands: Spell::new(),
-            has_failed: false,
-        }
+/// Tells what it wants, and that it wants that no more.
+fn tell_wants<C: Clock, E: Write>(log: &mut Log<'_, C, E>, node: NodeNo, told: WantsTold) {
+    if told.full {
+        let _ = writeln!(log.line(Level::Warning), "ringd: node {node} full");
     }
-
-    /// Tells whether its disk hangs, and that it goes on.
-    fn tell_hang<C: Clock, E: Write>(
-        &mut self,
-        log: &mut Log<'_, C, E>,
-        node: NodeNo,
-        hangs: bool,
-        second: u64,
-    ) {
-        let _ = match self.hangs.look(hangs, second) {
-            Some(Turn::Begins) => { writeln!(log.line(Level::Warning), "ringd: node {node} hangs") }
-            Some(Turn::Ends) => { writeln!(log.line(Level::Warning), "ringd: node {node} goes on") }
-            None => Ok(()),
-        };
+    if told.memory {
+        let _ = writeln!(log.line(Level::Warning), "ringd: node {node} memory");
     }
-
-    /// Tells what it wants, and that it wants that no more.
-    fn tell_wants<C: Clock, E: Write>(
-        &mut self,
-        log: &mut Log<'_, C, E>,
-        node: NodeNo,
-        wants: Wants,
-        second: u64,
-    ) {
-        let room = self.room.look(wants.room, second);
-        let memory = self.memory.look(wants.memory, second);
-        let stands = self.stands.look(wants.stands, second);
-        if room == Some(Turn::Begins) {
-            let _ = writeln!(log.line(Level::Warning), "ringd: node {node} full");
-        }
-        if memory == Some(Turn::Begins) {
-            let _ = writeln!(log.line(Level::Warning), "ringd: node {node} memory");
-        }
-        if stands == Some(Turn::Begins) {
-            let _ = writeln!(log.line(Level::Warning), "ringd: node {node} at limit");
-        }
-        let ends = Some(Turn::Ends);
-        let is_over = room == ends || memory == ends || stands == ends;
-        if is_over && !self.wants_something() {
-            let _ = writeln!(log.line(Level::Warning), "ringd: node {node} well again");
-        }
+    if told.at_limit {
+        let _ = writeln!(log.line(Level::Warning), "ringd: node {node} at limit");
     }
-
-    /// Whether it is told to want something.
-    fn wants_something(&self) -> bool {
-        self.room.is_told || self.memory.is_told || self.stands.is_told
+    if told.well_again {
+        let _ = writeln!(log.line(Level::Warning), "ringd: node {node} well again");
     }
 }
 
@@ -100,7 +56,7 @@ impl Troubles {
     /// The node has failed: nothing else is told of it.
     pub(crate) fn fail(&mut self, node: NodeNo) {
         if let Some(told) = self.told.get_mut(place(node)) {
-            told.has_failed = true;
+            told.fail();
         }
     }
 
@@ -143,12 +99,9 @@ impl Troubles {
             let Ok(node) = NodeNo::new(number) else {
                 break;
             };
-            if told.has_failed {
-                continue;
-            }
             let counts = tally.counts(rt);
-            told.tell_hang(log, node, hangs(counts.writing(now)), second);
-            told.tell_wants(log, node, shared.watch.wants(rt, node), second);
+            tell_hang(log, node, told.look_at_disk(hangs(counts.writing(now)), second));
+            tell_wants(log, node, told.look_at_wants(shared.watch.wants(rt, node), second));
         }
     }
 }
