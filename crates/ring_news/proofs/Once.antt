@@ -1,5 +1,5 @@
 -- The failure of a node is told once at most.
-use Rattle.std.proofs.Common.{◌≡◌, ◌≢◌, ℕ, inl, inr, ◌+◌, ◌-◌, ◌<◌, ◌≤◌, ◌==◌, Bool, true, false, ◌⊎◌, List, [], ◌∷◌, length, refl, sym, ◌∙◌, ap, subst, arith, Option, Some, None, position, slice_get, slice_index_or, slice_set, unwrap_or, option_map, if◌then◌else◌}
+use Rattle.std.proofs.Common.{◌≡◌, ◌≢◌, ℕ, inl, inr, ◌+◌, ◌-◌, ◌<◌, ◌≤◌, ◌==◌, Bool, true, false, ◌⊎◌, List, [], ◌∷◌, length, refl, sym, ◌∙◌, ap, subst, arith, Option, Some, None, position, slice_get, slice_index_or, slice_set, option_map, if◌then◌else◌}
 use Rattle.std.specs.List.{cons_option, count_by}
 use Rattle.std.specs.Option.{option_or}
 use Rattle.std.proofs.lemmas.Grind.{common_steps}
@@ -11,7 +11,7 @@ use Rattle.std.proofs.lemmas.List.Quantifiers.{position-Some}
 use Rattle.disk_model.specs.declared.system_fault.SystemFault.{SystemFault}
 use Rattle.ring_news.specs.declared.book.Book.{Book}
 use Rattle.ring_news.specs.declared.failure.Failure.{Failure}
-use Rattle.ring_news.specs.declared.failure.Failure.TheVariants.{Absent, Due, Told}
+use Rattle.ring_news.specs.declared.failure.Failure.TheVariants.{Absent, Told}
 use Rattle.ring_news.specs.declared.news.News.{News}
 use Rattle.ring_news.specs.declared.news.News.TheVariants.{Failed, Happened, LeftOut, Look, Ended}
 use Rattle.ring_news.specs.Books.{again, count_due, end_due, event_due, failure_at, failure_news, is_due, look_due, news_of, told}

@@ -1,5 +1,5 @@
 -- What is told over any calls of a book.
-use Rattle.std.specs.Prelude.{ℕ, ◌==◌, Bool, true, false, List, [], ◌∷◌, Option, Some, None}
+use Rattle.std.specs.Prelude.{ℕ, ◌==◌, Bool, true, false, List, [], ◌∷◌, Option, None}
 use Rattle.std.specs.List.{cons_option}
 use Rattle.disk_model.specs.declared.system_fault.SystemFault.{SystemFault}
 use Rattle.log_lines.specs.Quotas.{begun}

@@ -1,5 +1,5 @@
 -- What is told of the troubles of a node at one look.
-use Rattle.std.specs.Prelude.{ℕ, Bool, true, false, not, ◌||◌, ◌&&◌, if◌then◌else◌, Option, Some, None}
+use Rattle.std.specs.Prelude.{ℕ, Bool, true, false, not, ◌||◌, ◌&&◌, Option, Some, None}
 use Rattle.log_lines.specs.declared.spell.Spell.{Spell}
 use Rattle.log_lines.specs.declared.spell.Turn.{Turn}
 use Rattle.log_lines.specs.declared.spell.Turn.TheVariants.{Begins, Ends}
