@@ -1,15 +1,12 @@
 //! The line of what has happened at a node.
+pub(crate) use ring_news::Event;
 use std::io;
 use std::io::Write;
-
-pub(crate) use ring_news::Event;
 
 /// Writes its line.
 pub(crate) fn print_event<E: Write>(err: &mut E, event: &Event) -> io::Result<()> {
     match event {
-        Event::Opened(node, door) => {
-            writeln!(err, "ringd: node {node}: session at door {door}")
-        }
+        Event::Opened(node, door) => { writeln!(err, "ringd: node {node}: session at door {door}") }
         Event::Ended(node, door) => {
             writeln!(err, "ringd: node {node}: session at door {door} ended")
         }

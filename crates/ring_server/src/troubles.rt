@@ -100,8 +100,10 @@ impl Troubles {
                 break;
             };
             let counts = tally.counts(rt);
-            tell_hang(log, node, told.look_at_disk(hangs(counts.writing(now)), second));
-            tell_wants(log, node, told.look_at_wants(shared.watch.wants(rt, node), second));
+            let turn = told.look_at_disk(hangs(counts.writing(now)), second);
+            tell_hang(log, node, turn);
+            let wants = shared.watch.wants(rt, node);
+            tell_wants(log, node, told.look_at_wants(wants, second));
         }
     }
 }
