@@ -1,5 +1,5 @@
 -- What keeps a session, and which one holds the last free door.
-use Rattle.std.specs.Prelude.{ℕ, ◌+◌, ◌-◌, ◌==◌, nat_le, nat_lt, Bool, true, false, not, ◌||◌, ◌&&◌, if◌then◌else◌, Option, Some, None}
+use Rattle.std.specs.Prelude.{ℕ, ◌+◌, ◌==◌, nat_le, Bool, true, false, not, ◌||◌, ◌&&◌, if◌then◌else◌, Option, Some, None}
 use Rattle.door_rules.specs.declared.turns.TheConstants.{SHORT_LINES, FULL_SECONDS}
 
 -- the refusals of a line that asks nothing: of a name, of a number, or of all of it

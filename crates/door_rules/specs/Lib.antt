@@ -1,3 +1,5 @@
 pub mod Doors
 pub mod Marks
+pub mod Stands
+pub mod Told
 pub mod Waiters

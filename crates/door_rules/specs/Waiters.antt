@@ -1,5 +1,5 @@
 -- What a waiter is told, and when.
-use Rattle.std.specs.Prelude.{ℕ, ◌==◌, nat_lt, Bool, true, false, not, ◌&&◌, ◌||◌, Option, Some, None}
+use Rattle.std.specs.Prelude.{ℕ, ◌==◌, nat_lt, Bool, not, ◌&&◌, ◌||◌}
 
 -- who waits for the end of a leader of term `held`, where the latest one is of this term and is present or not
 abbrev pub is_told : ℕ → ℕ → Bool → Bool

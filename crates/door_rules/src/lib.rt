@@ -1,17 +1,26 @@
 //! What a node's doors go by: what keeps a session from being idle, which one holds the last free door, what a line says of
 //! what its session stood for, and what is known of that.
 //!
-//! `specs/` says the same by definitions: Doors has sessions and doors, Marks the lines, Waiters what a waiter is told.
+//! `specs/` says the same by definitions: Doors has sessions and doors, Marks the lines, Stands what is known of who stood for a
+//! key, Waiters what a waiter is told.
 #![tactic(auto)]
 
 mod keeping;
+mod keys;
+mod limits;
 mod mark;
+mod presence;
+mod resigned;
+mod stand;
 mod stood;
 mod turns;
 mod waiters;
 
 pub use keeping::keeps;
+pub use limits::TERMS;
 pub use mark::{MARK_BYTES, Mark, TEXT_BYTES, read_mark};
-pub use stood::{Place, TERMS, place_for};
+pub use presence::{Presence, presence_of};
+pub use resigned::Resigned;
+pub use stood::Stood;
 pub use turns::{FULL_SECONDS, SHORT_LINES, Turns, is_over};
 pub use waiters::is_told;

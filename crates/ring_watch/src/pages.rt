@@ -2,10 +2,9 @@
 use crate::people::{group_for_people, ring_for_people};
 use crate::process::process;
 use crate::reception::{Page, Reception, home_of};
-use crate::roll::Presence;
 use crate::status_port::Facts;
 use client_stream::Deadline;
-use door_rules::is_told;
+use door_rules::{Presence, is_told};
 use ring_records::{Decision, GroupName, NodeNo};
 use ring_status::{
     Content, Holder, NodeStatus, RingStatus, Status, Target, are_well, can_elect, health_text,

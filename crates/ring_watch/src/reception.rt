@@ -1,9 +1,10 @@
 //! Where the clerks of a ring's nodes are asked.
 ghost use Rattle.std.specs.Prelude.{◌≡◌, ◌+◌};
 
-use crate::roll::{Presence, Roll};
+use crate::roll::Roll;
 use client_stream::Deadline;
 use crossbeam_channel::{Receiver, Sender, bounded, unbounded};
+use door_rules::Presence;
 use ring_records::{Decision, GroupName, Key, NodeNo, Term};
 use ring_status::NodeStatus;
 use std::alloc::{AllocError, Global};

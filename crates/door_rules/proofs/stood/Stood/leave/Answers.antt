@@ -1,0 +1,10 @@
+use Rattle.std.proofs.Common.{rules, Bool, not, filter, ap, ◌∙◌}
+use Rattle.std.proofs.lemmas.Fn.{filter_same}
+use Rattle.door_rules.specs.Stands.{is_for}
+use Rattle.door_rules.specs.Told.{Told}
+use Rattle.door_rules.proofs.stood.Stood.leave.Goals as goal
+
+pub returns : goal.returns
+returns c =
+    let test : Told → Bool = λ told. not (is_for c.args.key.now told) in
+    filter_same _ test _ (λ x b f' k. search rules) _ _ c.retain.ensures.filtered ∙ ap (filter test) c.self.view_is
