@@ -1,5 +1,6 @@
 pub mod Doors
 pub mod Marks
+pub mod Refusals
 pub mod Stands
 pub mod Told
 pub mod Waiters

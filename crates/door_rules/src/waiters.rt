@@ -1,6 +1,13 @@
 // When a waiter is told.
 ghost use Rattle.std.specs.Prelude.{◌≡◌};
-ghost use Rattle.door_rules.specs.Waiters.{is_told};
+ghost use Rattle.door_rules.specs.Waiters.{is_next, is_told};
+
+/// Whether who waits for a leader of a term above that one is told, where the latest one is of this term.
+pub fn is_next(above: u64, term: u64) -> bool
+    ensures { result ≡ is_next above term }
+{
+    above < term
+}
 
 /// Whether who waits for the end of a leader of term `held` is told, where the latest one is of this term, and present or
 /// not.

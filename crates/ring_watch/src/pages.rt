@@ -1,10 +1,13 @@
 //! What is told for each target.
+ghost use Rattle.std.specs.Prelude.{◌≡◌, ◌==◌, ◌&&◌, [], if◌then◌else◌, length, string_bytes, IfOk, IfErr};
+ghost use Rattle.ring_status.specs.Health.{all_well, can_elect, health_body, ready_body};
+
 use crate::people::{group_for_people, ring_for_people};
 use crate::process::process;
 use crate::reception::{Page, Reception, home_of};
 use crate::status_port::Facts;
 use client_stream::Deadline;
-use door_rules::{Presence, is_told};
+use door_rules::{Presence, is_next, is_told};
 use ring_records::{Decision, GroupName, NodeNo};
 use ring_status::{
     Content, Holder, NodeStatus, RingStatus, Status, Target, are_well, can_elect, health_text,
@@ -26,8 +29,25 @@ pub(crate) struct Body {
 const LIVE: &str = "live\n";
 
 /// A text where memory was had for it.
-fn had(text: Result<String, AllocError>) -> Result<String, Status> {
-    text.map_err(|_| Status::Unavailable)
+fn had(text: Result<String, AllocError>) -> Result<String, Status>
+    ensures ok { IfOk result (λ t. text ≡ Ok t) }
+    ensures err { IfErr result (λ status. status ≡ Status.Unavailable) }
+{
+    match text {
+        Ok(text) => Ok(text),
+        Err(_) => Err(Status::Unavailable),
+    }
+}
+
+/// How a question is answered that asks whether something is so.
+fn status_if(is_so: bool) -> Status
+    ensures { result ≡ (if is_so then Status.Found else Status.Unavailable) }
+{
+    if is_so {
+        Status::Found
+    } else {
+        Status::Unavailable
+    }
 }
 
 /// What is told of each node, in their order. Refused where one of them does not answer.
@@ -78,27 +98,23 @@ pub(crate) fn doorless<R: Wait + Clock>(
     Ok(without)
 }
 
-fn ready(alloc: Global, nodes: &[NodeStatus]) -> Result<Body, Status> {
-    let status = if can_elect(nodes) {
-        Status::Found
-    } else {
-        Status::Unavailable
-    };
+fn ready(alloc: Global, nodes: &[NodeStatus]) -> Result<Body, Status>
+    ensures status { IfOk result (λ body. body.status ≡ (if can_elect nodes.now then Status.Found else Status.Unavailable)) }
+    ensures text { IfOk result (λ body. string_bytes body.text ≡ ready_body nodes.now) }
+{
     Ok(Body {
-        status,
+        status: status_if(can_elect(nodes)),
         content: Content::Text,
         text: had(ready_text(alloc, nodes))?,
     })
 }
 
-fn health(alloc: Global, nodes: &[NodeStatus], doorless: &[NodeNo]) -> Result<Body, Status> {
-    let status = if are_well(nodes) && doorless.is_empty() {
-        Status::Found
-    } else {
-        Status::Unavailable
-    };
+fn health(alloc: Global, nodes: &[NodeStatus], doorless: &[NodeNo]) -> Result<Body, Status>
+    ensures status { IfOk result (λ body. body.status ≡ (if all_well nodes.now && (length doorless.now == 0) then Status.Found else Status.Unavailable)) }
+    ensures text { IfOk result (λ body. string_bytes body.text ≡ health_body nodes.now doorless.now) }
+{
     Ok(Body {
-        status,
+        status: status_if(are_well(nodes) && doorless.is_empty()),
         content: Content::Text,
         text: had(health_text(alloc, nodes, doorless))?,
     })
@@ -124,7 +140,11 @@ pub(crate) fn ring<'a>(
     }
 }
 
-pub(crate) fn found(content: Content, text: Result<String, AllocError>) -> Result<Body, Status> {
+pub(crate) fn found(content: Content, text: Result<String, AllocError>) -> Result<Body, Status>
+    ensures status { IfOk result (λ body. body.status ≡ Status.Found) }
+    ensures content { IfOk result (λ body. body.content ≡ content) }
+    ensures text { IfOk result (λ body. text ≡ Ok body.text) }
+{
     Ok(Body {
         status: Status::Found,
         content,
@@ -164,7 +184,11 @@ fn leader<R: Wait>(
 }
 
 /// What is known of who leads, as it is told.
-pub(crate) fn known(presence: &Presence) -> Holder<'_> {
+pub(crate) fn known(presence: &Presence) -> Holder<'_>
+    ensures present { result.present ≡ presence.now.present }
+    ensures resigned { result.resigned ≡ presence.now.resigned }
+    ensures text { result.text.now ≡ string_bytes presence.now.text }
+{
     Holder {
         present: presence.present,
         resigned: presence.resigned,
@@ -221,7 +245,10 @@ fn next<R: Wait + Clock>(
 }
 
 /// That nothing has come.
-fn nothing(alloc: Global) -> Body {
+fn nothing(alloc: Global) -> Body
+    ensures status { result.status ≡ Status.NoContent }
+    ensures text { string_bytes result.text ≡ [] }
+{
     Body {
         status: Status::NoContent,
         content: Content::Json,
@@ -238,7 +265,7 @@ fn leader_above<R: Wait>(
     lead: &Decision,
     above: u64,
 ) -> Result<Body, Status> {
-    if u64::from(lead.key.term.number()) > above {
+    if is_next(above, u64::from(lead.key.term.number())) {
         leader(rt, alloc, reception, node, lead)
     } else {
         Ok(nothing(alloc))

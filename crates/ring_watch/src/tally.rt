@@ -1,4 +1,8 @@
 //! What the threads of a node count.
+ghost use Rattle.std.specs.Prelude.{◌≡◌, nat_le, position};
+ghost use Rattle.ring_status.specs.Bounds.{bounds, micros_of};
+
+use door_rules::is_listed;
 use ring_records::REFUSALS;
 use ring_status::{Bound, CommitTimes, Counts, Landing, RefusalCount, WithinCount};
 use std::alloc::{AllocError, Global};
@@ -17,6 +21,15 @@ pub struct Tally {
     micros: AtomicU64,
     // by their numbers, from 1 on
     refusals: Vec<AtomicU64>,
+}
+
+/// Which bound counts a commit that took so many microseconds: the first that is no shorter.
+fn place_within(micros: u64) -> Option<usize>
+    ensures { result ≡ position (λ bound. nat_le micros (micros_of bound)) bounds }
+{
+    Bound::all()
+        .iter()
+        .position(|bound| micros <= bound.micros())
 }
 
 impl Tally {
@@ -60,13 +73,13 @@ impl Tally {
     /// A batch or a checkpoint took so many microseconds.
     fn count_commit(&self, micros: u64) {
         self.micros.fetch_add(micros, Ordering::SeqCst);
-        for (bound, count) in Bound::all().iter().zip(&self.took) {
-            if micros <= bound.micros() {
-                count.fetch_add(1, Ordering::SeqCst);
-                return;
-            }
-        }
-        self.took_longer.fetch_add(1, Ordering::SeqCst);
+        let count = match place_within(micros) {
+            Some(at) => self.took.get(at),
+            None => None,
+        };
+        count
+            .unwrap_or(&self.took_longer)
+            .fetch_add(1, Ordering::SeqCst);
     }
 
     /// A batch is durable, or a checkpoint.
@@ -128,7 +141,7 @@ impl Tally {
         for count in &self.refusals {
             number = number.saturating_add(1);
             let count = count.load(Ordering::SeqCst);
-            if count > 0 || (3..=9).contains(&number) {
+            if is_listed(number, count) {
                 told.push(RefusalCount { number, count })?;
             }
         }
