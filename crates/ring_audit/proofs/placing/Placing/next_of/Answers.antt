@@ -1,4 +1,5 @@
-use Rattle.std.proofs.Common.{◌≡◌, ◌-◌, length, ap, subst, arith}
+use Rattle.std.proofs.Common.{◌≡◌, ◌-◌, length, ap, ◌∙◌, subst, arith}
+use Rattle.ring_records.specs.declared.summary.Summary.{Summary}
 use Rattle.ring_records.specs.Allowed.{IsAllowed}
 use Rattle.ring_records.specs.Part.{part as part_of}
 use Rattle.ring_audit.specs.Placement.{lists}
@@ -13,7 +14,7 @@ returns-then-allows-clause-some c =
     let b : IsBehind hs c.args.self.now.run.items c.args.node c.index-histories-number.result.items c.placed-placed.result c.index.result.now = record {
       whole = history_is c.args.histories.now c.args.node (c.number.result - 1) c.index-histories-number.result (ap (λ k. k - 1) c.number.ensures.value)
           (index_in c.args.histories.now c.args.self.now.n c.args.node c.number.result c.requires.placing.size c.at-part.ensures.low c.requires.inside c.number.ensures.value) c.index-histories-number.is;
-      count = c.placed-placed.ensures _ _ _ p.stands;
+      count = c.placed-placed.ensures ∙ ap (λ (k : Summary). k.inputs) p.stands.knows;
       within = omega arith;
       is = c.index.ensures;
     } in
@@ -27,7 +28,7 @@ returns-else-carried-clause-none c = λ y next.
     let b : IsBehind hs c.args.self.now.run.items c.args.node c.index-histories-number.result.items c.placed-placed.result c.index.result.now = record {
       whole = history_is c.args.histories.now c.args.node (c.number.result - 1) c.index-histories-number.result (ap (λ k. k - 1) c.number.ensures.value)
           (index_in c.args.histories.now c.args.self.now.n c.args.node c.number.result c.requires.placing.size c.at-part.ensures.low c.requires.inside c.number.ensures.value) c.index-histories-number.is;
-      count = c.placed-placed.ensures _ _ _ p.stands;
+      count = c.placed-placed.ensures ∙ ap (λ (k : Summary). k.inputs) p.stands.knows;
       within = omega arith;
       is = c.index.ensures;
     } in
