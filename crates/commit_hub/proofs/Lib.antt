@@ -1,4 +1,5 @@
 pub mod Batches
+pub mod Looks
 pub mod Requests
 pub mod Ties
 pub mod Works

@@ -1,5 +1,5 @@
 -- What a hub's calls tell without the state under its lock.
-use Rattle.std.specs.Prelude.{ℕ, ◌≡◌, ◌+◌, ◌⊎◌, Bool, true, false, List, [], ◌++◌, length}
+use Rattle.std.specs.Prelude.{ℕ, ◌≡◌, ◌+◌, ◌⊎◌, Bool, true, false, not, List, [], ◌++◌, length}
 use Rattle.std.specs.FinMap as fin
 use Rattle.ring_records.specs.declared.input.Input.{Input}
 use Rattle.ring_records.specs.declared.packet.Packet.{Packet}
@@ -17,11 +17,12 @@ use Rattle.ring_records.specs.Serving.{shown_in}
 use Rattle.ring_records.specs.Lawful.{IsLawfulState}
 use Rattle.ring_records.specs.Summary.{floors_in, summary}
 use Rattle.group_commit.specs.declared.landed.Landed.{Landed}
-use Rattle.group_commit.specs.Desk.{DeskKept, frees_room, is_due}
+use Rattle.group_commit.specs.Desk.{DeskKept, frees_room, is_due, known_all, shown_all}
 use Rattle.group_commit.specs.Next.{is_to_make_room}
 use Rattle.group_commit.specs.Past.{IsPast, shifted}
 use Rattle.group_commit.specs.Since.{IsKnownState}
 use Rattle.commit_hub.specs.declared.look.Look.{Look}
+use Rattle.commit_hub.specs.Over.{is_over}
 
 -- Why a node of a ring of n gives no ticket for the request: it is closed or has failed; the message is of no node of
 -- the ring; or else all numbers of tickets were given, or a growth was refused.
@@ -92,6 +93,23 @@ desk_in member opening s = record {
 -- what is known of the room of a desk, of which a checkpoint is wanted or is not
 abbrev pub room_of : Bool → DeskKept → Room
 room_of is_wanted desk = record { is_due = is_due desk; frees = frees_room desk; is_coming = is_to_make_room is_wanted desk }
+
+-- what is shown of a desk, of which a checkpoint is wanted or is not, by what it knows
+abbrev pub look_at : Bool → DeskKept → Look
+look_at is_wanted desk = record {
+  shown = shown_all desk;
+  used = used (launched_base desk.view.state) desk.view.state.inputs;
+  snapshot = snapshot_len newest (known_all desk);
+  epoch = desk.view.state.base.epoch;
+  layout = desk.view.state.base.layout;
+  capacity = desk.view.member.capacity;
+  stands = (known_all desk).stands;
+  floors = fin.len (known_all desk).floors;
+  is_due = is_due desk;
+  frees_room = frees_room desk;
+  is_room_coming = is_to_make_room is_wanted desk;
+  is_open = not (is_over desk);
+}
 
 abbrev pub room_in : Look → Room
 room_in look = record { is_due = look.is_due; frees = look.frees_room; is_coming = look.is_room_coming }

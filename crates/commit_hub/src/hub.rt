@@ -2,11 +2,11 @@
 ghost use Rattle.std.specs.Prelude.{◌≡◌, ◌+◌, ◌≤◌, ◌⊎◌, List, length, map, false, true, IfOk, IfErr, IfNone, IsOk, OnOk, OnErr};
 ghost use Rattle.std.specs.List.{sum_by};
 ghost use Rattle.ring_records.specs.declared.input.Input.{Input};
-ghost use Rattle.ring_records.specs.Lawful.{IsLawfulState};
 ghost use Rattle.ring_records.specs.Outside.{is_outside};
-ghost use Rattle.group_commit.specs.Desk.{IsAnswer, seen};
+ghost use Rattle.group_commit.specs.Desk.{IsAnswer};
 ghost use Rattle.node_core.specs.Core.{IsNodeOf};
 ghost use Rattle.group_commit.specs.Past.{IsPast};
+ghost use Rattle.group_commit.specs.Since.{IsKnownDesk};
 ghost use Rattle.group_commit.specs.Ticket.{shown};
 ghost use Rattle.commit_hub.specs.Over.{is_over};
 ghost use Rattle.commit_hub.specs.Holders.{begun_by, count_of, known_by, objection_to, view_by};
@@ -275,7 +275,7 @@ impl<A: NodeLedger> Hub<A> {
     pub fn settle(self, shares: Vec<Share<A>>) -> Result<Desk, (Hub<A>, Vec<Share<A>>, Refusal)>
         ensures member { IfOk result (λ desk. desk.view.member ≡ A.member) }
         ensures opening { IfOk result (λ desk. desk.opening ≡ A.opening) }
-        ensures lawful { IfOk result (λ desk. (past : List Input) → IsPast A.member A.opening past → IsLawfulState A.member (seen past desk).state) }
+        ensures known { IfOk result (λ desk. IsKnownDesk desk) }
         ensures count { IfOk result (λ desk. desk.opening.inputs + length desk.view.state.inputs ≡ A.opened + sum_by count_of shares.items) }
         ensures whole { 1 + length shares.items ≡ A.parts → IsOk result }
         ensures refusal { IfErr result (λ e. e.2 ≡ Refusal.Mismatch) }

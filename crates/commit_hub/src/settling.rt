@@ -1,10 +1,7 @@
 //! Whether the shares add up to what a hub's desk accepted.
-ghost use Rattle.std.specs.Prelude.{◌≡◌, ◌+◌, ◌-◌, ◌^◌, ◌↔◌, IsTrue, IsOk, IfOk, IfErr, OnOk, List, length, map, min};
+ghost use Rattle.std.specs.Prelude.{◌≡◌, ◌+◌, ◌-◌, ◌^◌, ◌↔◌, IsTrue, IsOk, IfOk, IfErr, OnOk, length, map, min};
 ghost use Rattle.std.specs.List.{sum_by};
-ghost use Rattle.ring_records.specs.declared.input.Input.{Input};
-ghost use Rattle.ring_records.specs.Lawful.{IsLawfulState};
-ghost use Rattle.group_commit.specs.Desk.{seen};
-ghost use Rattle.group_commit.specs.Past.{IsPast};
+ghost use Rattle.group_commit.specs.Since.{IsKnownDesk};
 ghost use Rattle.commit_hub.specs.Holders.{count_of, AddUp};
 
 use crate::ledgers::NodeLedger;
@@ -20,7 +17,7 @@ impl<A: NodeLedger> Locked<A> {
         ensures exact { IsOk result ↔ AddUp shares.items A.opened self.shared.desk }
         ensures whole { 1 + length shares.items ≡ A.parts → IsOk result }
         ensures desk { IfOk result (λ desk. desk ≡ self.shared.desk) }
-        ensures lawful { OnOk result ((past : List Input) → IsPast A.member A.opening past → IsLawfulState A.member (seen past self.shared.desk).state) }
+        ensures known { OnOk result (IsKnownDesk self.shared.desk) }
         ensures back { IfErr result (λ e. e.0.shared.desk ≡ self.shared.desk) }
         ensures shares { IfErr result (λ e. map count_of e.1.items ≡ map count_of shares.items) }
     {
@@ -39,7 +36,7 @@ impl<A: NodeLedger> Locked<A> {
         ensures exact { IsTrue result ↔ AddUp shares.old.items A.opened self.old.shared.desk }
         ensures whole { 1 + length shares.old.items ≡ A.parts → IsTrue result }
         ensures desk { self.new.shared.desk ≡ self.old.shared.desk }
-        ensures lawful { (past : List Input) → IsPast A.member A.opening past → IsLawfulState A.member (seen past self.old.shared.desk).state }
+        ensures known { IsKnownDesk self.old.shared.desk }
         ensures shares { map count_of shares.new.items ≡ map count_of shares.old.items }
     {
         let Locked {

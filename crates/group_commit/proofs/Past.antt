@@ -29,7 +29,8 @@ use Rattle.ring_records.specs.Answer as by_rule
 use Rattle.ring_records.specs.Emission.{sent}
 use Rattle.ring_records.specs.Release.{carry}
 use Rattle.ring_records.specs.History.{floor, is_retired, credit}
-use Rattle.ring_records.specs.Known.{Objects, stepped, after}
+use Rattle.ring_records.specs.FloorOf.{floor_of, is_below_floor}
+use Rattle.ring_records.specs.Known.{Objects, known_of, leader_of, stepped, after}
 use Rattle.ring_records.specs.Leader.{first_leader, leader}
 use Rattle.ring_records.specs.Decided.{told}
 use Rattle.ring_records.specs.Lists.{or_else, found_after, EachAfter}
@@ -40,14 +41,15 @@ use Rattle.ring_records.specs.Summary.{summary}
 use Rattle.ring_records.proofs.Admission.{objection-allowed}
 use Rattle.ring_records.proofs.Growth.{EachAfter-take}
 use Rattle.ring_records.proofs.History.{if_live-none}
-use Rattle.ring_records.proofs.Known.{objects-known, credit-next, credit-sent}
+use Rattle.ring_records.proofs.Known.{objects-known, credit-next, credit-sent, leader-known, live-known}
 use Rattle.ring_records.proofs.RetireStep.{stepped-known}
 use Rattle.ring_records.proofs.Lists.{along, EachAfter-push}
-use Rattle.node_core.specs.Brought.{brought, who_after, who_by}
+use Rattle.node_core.specs.Brought.{brought, who_by}
 use Rattle.node_core.specs.Core.{CoreView, Refuses}
 use Rattle.node_core.specs.declared.effects.Effects.{Effects}
 use Rattle.node_core.proofs.Histories.{carries, leads_last, tells, who_known}
 use Rattle.group_commit.specs.CoreOf.{IsOf, core_in}
+use Rattle.group_commit.specs.Leads.{leader_by}
 use Rattle.group_commit.specs.Replying.{Replies, who_reply}
 use Rattle.group_commit.specs.Past.{IsPast, moved, shifted}
 use Rattle.group_commit.specs.Since.{IsOpenSince, IsLawfulSince, IsAreaOf, IsKnownState}
@@ -87,20 +89,27 @@ who_said me h key = ap who_reply (who_known me h key) ∙ at (is_retired h key)
     at false = refl
 
 -- who leads, where that is told; nobody where the key is retired
-pub led_ok : (me : ℕ) (h : List Input) (key : Key) (led : Option Candidate) → who_after me h key ≡ Ok led → led ≡ leader me h key
-led_ok me h key led e = go (is_retired h key) e
+pub led_ok : (s : Summary) (key : Key) (led : Option Candidate) → who_by s key ≡ Ok led → led ≡ leader_by s key
+led_ok s key led e = go (is_below_floor s.floors key) e
   where
-    go : (b : Bool) → cond b (Err (refused.Retired (floor h key.group))) (Ok (leader me h key)) ≡ Ok led → led ≡ leader me h key
+    go : (b : Bool) → cond b (Err (refused.Retired (floor_of s.floors key.group))) (Ok (leader_of (known_of s key))) ≡ Ok led → led ≡ cond b None (leader_of (known_of s key))
     go true e = absurd cc
-    go false e = sym (let p : leader me h key ≡ led = cc in p)
+    go false e = sym (let p : leader_of (known_of s key) ≡ led = cc in p)
 
-pub led_err : (me : ℕ) (h : List Input) (key : Key) (why : Refusal) → who_after me h key ≡ Err why → None ≡ leader me h key
-unfolding leader
-led_err me h key why e = go (is_retired h key) refl e
+pub led_err : (s : Summary) (key : Key) (why : Refusal) → who_by s key ≡ Err why → None ≡ leader_by s key
+led_err s key why e = go (is_below_floor s.floors key) e
   where
-    go : (b : Bool) → is_retired h key ≡ b → cond b (Err (refused.Retired (floor h key.group))) (Ok (leader me h key)) ≡ Err why → None ≡ leader me h key
-    go true gone e = sym (if_live-none h key (first_leader me h key) gone)
-    go false live e = absurd cc
+    go : (b : Bool) → cond b (Err (refused.Retired (floor_of s.floors key.group))) (Ok (leader_of (known_of s key))) ≡ Err why → None ≡ cond b None (leader_of (known_of s key))
+    go true e = refl
+    go false e = absurd cc
+
+pub leader_known : (me : ℕ) (h : List Input) (key : Key) → leader_by (summary me h) key ≡ leader me h key
+unfolding leader
+leader_known me h key = (λ i. cond (live-known me h key i) None (leader-known me h key i)) ∙ go (is_retired h key) refl
+  where
+    go : (b : Bool) → is_retired h key ≡ b → cond b None (leader me h key) ≡ leader me h key
+    go true gone = sym (if_live-none h key (first_leader me h key) gone)
+    go false live = refl
 
 -- the reply, and what the history gains
 pub answers : (core : CoreView) (base : Base) (h : List Input) (q : Request) (given : Reply) (more : Option Input) → IsOf core base h → Replies core q given more

@@ -7,34 +7,37 @@ use Rattle.std.proofs.lemmas.List.{length-append}
 use Rattle.std.proofs.lemmas.Option.{same_Some}
 use Rattle.ring_records.specs.declared.base.Base.{Base}
 use Rattle.ring_records.specs.declared.input.Input.{Input}
+use Rattle.ring_records.specs.declared.key.Key.{Key}
 use Rattle.ring_records.specs.declared.request.Request.{Request}
 use Rattle.ring_records.specs.declared.summary.Summary.{Summary}
-use Rattle.ring_records.specs.Admission.{newest}
+use Rattle.ring_records.specs.Admission.{newest, used}
 use Rattle.ring_records.specs.Lawful.{IsBaseOf, IsAdmitted, IsLawful, IsLawfulState}
 use Rattle.ring_records.specs.Allowed.{IsAllowed}
 use Rattle.ring_records.specs.Known.{Objects, after}
+use Rattle.ring_records.specs.Leader.{leader}
 use Rattle.ring_records.specs.Lists.{EachAfter}
 use Rattle.ring_records.specs.Member.{Member}
 use Rattle.ring_records.specs.States as states
 use Rattle.ring_records.specs.Launching as launching
 use Rattle.ring_records.specs.Snapshot.{snapshot_len}
 use Rattle.ring_records.specs.States.{NodeState, launched_base, durable_in, flown_in}
-use Rattle.ring_records.specs.Serving.{gained_by}
+use Rattle.ring_records.specs.Serving.{gained_by, shown_in}
 use Rattle.ring_records.specs.Summary.{summary}
 use Rattle.ring_records.proofs.Growth.{EachAfter-take}
 use Rattle.ring_records.proofs.RetireStep.{after-known}
 use Rattle.ring_records.proofs.Known.{}
 use Rattle.ring_records.proofs.Lists.{none≢some}
-use Rattle.group_commit.specs.Desk.{DeskKept, first_base, seen, launched, landed, IsSubmitted}
+use Rattle.group_commit.specs.Desk.{DeskKept, first_base, known_all, known_durable, seen, shown_all, launched, landed, IsSubmitted}
 use Rattle.group_commit.specs.DeskCalls.{submitted}
 use Rattle.group_commit.specs.Launching.{launched_all}
+use Rattle.group_commit.specs.Leads.{leader_by}
 use Rattle.group_commit.specs.Kept.{state_with}
 use Rattle.group_commit.specs.Opening.{opened_core, IsKnownLawful}
 use Rattle.group_commit.specs.Past.{IsPast, moved, shifted}
-use Rattle.group_commit.specs.Since.{IsKnownState}
+use Rattle.group_commit.specs.Since.{IsKnownDesk, IsKnownState}
 use Rattle.group_commit.specs.Ticket.{TicketView}
 use Rattle.group_commit.proofs.Opening.{EachAfter-behind}
-use Rattle.group_commit.proofs.Past.{take-front, durable-shifted, launched-shifted, free_since, based_past, lawful_past}
+use Rattle.group_commit.proofs.Past.{take-front, core_past, durable_knows, durable-shifted, launched-shifted, free_since, based_past, lawful_past, leader_known, used-moved}
 use Rattle.group_commit.proofs.Settling.{drop-front}
 use Rattle.group_commit.proofs.Since.{known_opened}
 
@@ -99,6 +102,9 @@ lawful_known m opening past s is known =
     flown None same b e = none≢some b e
     flown (Some c) same b e = let all = same c refl in ap (λ (d : Base). d.inputs) (sym (same_Some (moved (length past) c) b e)) ∙ ap (λ n. length past + n) all
 
+pub lawful_desk : (desk : DeskKept) → IsKnownDesk desk → (past : List Input) → IsPast desk.view.member desk.opening past → IsLawfulState desk.view.member (seen past desk).state
+lawful_desk desk known past is = lawful_known desk.view.member desk.opening past desk.view.state is known
+
 -- so is that of one that was opened, and of which no checkpoint flies
 pub lawful_seen : (m : Member) (layout epoch : ℕ) (opening : Summary) (past l : List Input) (durable flying : ℕ) → IsPast m opening past
     → IsKnownLawful (opened_core m opening (first_base layout epoch opening)) l → durable ≡ flying → flying ≤ length l
@@ -154,3 +160,34 @@ past_first past d k is lawful =
       summed = ap (λ (s : Summary). after m.node s (take k l)) is.summed ∙ after-known m.node m.n past (take k l) is.allowed (EachAfter-behind (IsAllowed m.node m.n) [] past (take k l) each);
       allowed = each;
     }
+
+-- ---- what it knows and shows
+
+pub all_seen : (past : List Input) (desk : DeskKept) → IsPast desk.view.member desk.opening past → IsKnownDesk desk
+    → known_all desk ≡ summary desk.view.member.node (seen past desk).state.inputs
+all_seen past desk is known = (core_past desk.view.member desk.opening past desk.view.state is known).knows
+
+pub durable_seen : (past : List Input) (desk : DeskKept) → IsPast desk.view.member desk.opening past → IsKnownDesk desk
+    → known_durable desk ≡ summary desk.view.member.node (durable_in (seen past desk).state)
+durable_seen past desk is known = durable_knows desk.view.member desk.opening past desk.view.state is known
+
+pub shown_seen : (past : List Input) (desk : DeskKept) → IsPast desk.view.member desk.opening past → IsKnownDesk desk
+    → shown_all desk ≡ shown_in desk.view.member.node (seen past desk).state
+shown_seen past desk is known =
+    let s = desk.view.state in
+    let front : desk.opening.inputs ≡ length past = λ i. (is.summed i).inputs in
+    let sum = length-append past s.inputs in
+    let inputs : desk.opening.inputs + length s.inputs ≡ length (past ++ s.inputs) = omega (arith, front, sum) in
+    let knows = all_seen past desk is known in
+    λ i. record { inputs = inputs i; durable = front i + s.durable; sent = (knows i).sent; taken = (knows i).taken; credit = (knows i).credit }
+
+pub leader_seen : (past : List Input) (desk : DeskKept) (key : Key) → IsPast desk.view.member desk.opening past → IsKnownDesk desk
+    → leader_by (known_all desk) key ≡ leader desk.view.member.node (seen past desk).state.inputs key
+leader_seen past desk key is known =
+    ap (λ (s : Summary). leader_by s key) (all_seen past desk is known) ∙ leader_known desk.view.member.node (seen past desk).state.inputs key
+
+pub used_seen : (past : List Input) (desk : DeskKept)
+    → used (launched_base desk.view.state) desk.view.state.inputs ≡ used (launched_base (seen past desk).state) (seen past desk).state.inputs
+used_seen past desk =
+    let s = desk.view.state in
+    sym (used-moved (launched_base s) past s.inputs) ∙ ap (λ (b : Base). used b (past ++ s.inputs)) (sym (launched-shifted past s))

@@ -7,6 +7,7 @@ use Rattle.ring_records.specs.declared.input.Input.{Input}
 use Rattle.ring_records.specs.declared.refusal.Refusal.{Refusal}
 use Rattle.ring_records.specs.declared.refusal.Refusal.TheVariants as refused
 use Rattle.ring_records.specs.declared.request.Request.{Request}
+use Rattle.ring_records.specs.declared.shown.Shown.{Shown}
 use Rattle.ring_records.specs.declared.summary.Summary.{Summary}
 use Rattle.ring_records.specs.Admission.{base_of, newest, used, shortage}
 use Rattle.ring_records.specs.Lawful.{IsBaseOf, IsLawful}
@@ -15,7 +16,7 @@ use Rattle.ring_records.specs.Answer.{Answered, Answers}
 use Rattle.ring_records.specs.Known.{after}
 use Rattle.ring_records.specs.Member.{Member}
 use Rattle.ring_records.specs.States as states
-use Rattle.ring_records.specs.States.{NodeState, launched_base, opened}
+use Rattle.ring_records.specs.States.{NodeState, durable_in, launched_base, opened}
 use Rattle.ring_records.specs.Serving.{answered_by, gained_by}
 use Rattle.ring_records.specs.Outside.{is_outside}
 use Rattle.ring_records.specs.Snapshot.{snapshot_len}
@@ -59,6 +60,20 @@ new_desk member run r = record {
 -- what its node knows once all that it accepted is durable
 abbrev pub known_all : DeskKept → Summary
 known_all desk = after desk.view.member.node desk.opening desk.view.state.inputs
+
+-- and what it knows by those that are durable
+abbrev pub known_durable : DeskKept → Summary
+known_durable desk = after desk.view.member.node desk.opening (durable_in desk.view.state)
+
+-- what it shows by that: the counts of its inputs, those that are summarised among them, and how far the links are
+abbrev pub shown_all : DeskKept → Shown
+shown_all desk = record {
+  inputs = desk.opening.inputs + length desk.view.state.inputs;
+  durable = desk.opening.inputs + desk.view.state.durable;
+  sent = (known_all desk).sent;
+  taken = (known_all desk).taken;
+  credit = (known_all desk).credit;
+}
 
 -- the core of the node before the first input since
 abbrev pub core_of : Member → Reading → CoreView

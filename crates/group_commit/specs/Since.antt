@@ -10,7 +10,7 @@ use Rattle.ring_records.specs.Known.{Objects, after}
 use Rattle.ring_records.specs.Lists.{EachAfter}
 use Rattle.ring_records.specs.Member.{Member}
 use Rattle.ring_records.specs.States.{NodeState, launched_base, durable_in, flown_in}
-use Rattle.group_commit.specs.Desk.{epochs}
+use Rattle.group_commit.specs.Desk.{DeskKept, epochs}
 use Rattle.group_commit.specs.Opening.{waits_for_area}
 
 -- nothing is against the input behind these inputs since, and it fits, with room counted from the base
@@ -40,3 +40,7 @@ pub record IsKnownState (m : Member) (opening : Summary) (s : NodeState) : Type 
   pub left : (b : Base) → s.checkpoint ≡ Some b → b.epoch < epochs
   pub fits : (b : Base) → s.checkpoint ≡ Some b → b.bytes ≤ m.capacity
   pub flies : s.checkpoint ≡ None → s.durable < s.flying → waits_for_area s.base (flown_in s) ≡ false
+
+-- a desk in such a state
+abbrev pub IsKnownDesk : DeskKept → Type 0
+IsKnownDesk desk = IsKnownState desk.view.member desk.opening desk.view.state

@@ -2,12 +2,12 @@
 ghost use Rattle.std.specs.Prelude.{◌≡◌, ◌+◌, ◌++◌, ◌⊎◌, ◌||◌, List, [], not, true, Some, None, length, drop, MatchOption, IfOk, IfErr, OnOk, OnErr};
 ghost use Rattle.std.specs.List.{cons_option};
 ghost use Rattle.ring_records.specs.declared.input.Input.{Input};
-ghost use Rattle.ring_records.specs.Lawful.{IsLawful, IsNodeState, IsLawfulState};
+ghost use Rattle.ring_records.specs.Lawful.{IsNodeState};
 ghost use Rattle.ring_records.specs.Answer.{Answered};
 ghost use Rattle.ring_records.specs.Member.{member};
 ghost use Rattle.ring_records.specs.Release.{window};
 ghost use Rattle.ring_records.specs.Snapshot.{IsSound};
-ghost use Rattle.ring_records.specs.States.{launched_base, durable_in};
+ghost use Rattle.ring_records.specs.States.{durable_in};
 
 use crate::desk::parts::{accept, replay};
 use crate::inputs::Inputs;
@@ -87,6 +87,7 @@ impl Desk {
     ghost use Rattle.group_commit.specs.Desk.{DeskKept, new_desk, core_of, seen, objection, IsSubmitted, IsHere};
     ghost use Rattle.group_commit.specs.Opening.{IsKnownLawful, IsUnlawful};
     ghost use Rattle.group_commit.specs.Past.{IsPast};
+    ghost use Rattle.group_commit.specs.Since.{IsKnownDesk};
     ghost use Rattle.gated_journal.specs.Opened.{reading_of_opening};
     ghost use Rattle.group_commit.specs.Ending.{is_over, IsRedeemed, IsForfeited};
     ghost use Rattle.group_commit.specs.Ticket.{shown};
@@ -275,9 +276,7 @@ impl Desk {
     /// those that it let go of: the first is number `first_kept`.
     pub fn history(&self) -> &[Input]
         ensures inputs { result.now ≡ drop self.now.gone self.now.view.state.inputs }
-        ensures lawful { (past : List Input) → IsPast self.now.view.member self.now.opening past
-            → IsLawful self.now.view.member.node self.now.view.member.n self.now.view.member.capacity (launched_base (seen past self.now).state) (seen past self.now).state.inputs }
-        ensures state { (past : List Input) → IsPast self.now.view.member self.now.opening past → IsLawfulState self.now.view.member (seen past self.now).state }
+        ensures known { IsKnownDesk self.now }
         ensures counts { IsNodeState self.now.view.state }
     {
         &self.inputs.kept
@@ -288,7 +287,7 @@ impl Desk {
     pub fn window(&self) -> Result<Vec<Packet>, AllocError>
         ensures packets { IfOk result (λ packets. (past : List Input) → IsPast self.now.view.member self.now.opening past
             → packets.items ≡ window self.now.view.member.node (durable_in (seen past self.now).state)) }
-        ensures lawful { (past : List Input) → IsPast self.now.view.member self.now.opening past → IsLawfulState self.now.view.member (seen past self.now).state }
+        ensures known { IsKnownDesk self.now }
     {
         self.outbox.released.window(self.inputs.allocator())
     }

@@ -6,6 +6,7 @@ mod accept;
 mod effects;
 mod free;
 mod judge;
+pub mod laws;
 mod measure;
 mod node;
 mod ranges;

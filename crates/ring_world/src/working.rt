@@ -5,6 +5,7 @@ ghost use Rattle.ring_records.specs.Member.{member};
 ghost use Rattle.ring_records.specs.Message.{candidate_of};
 ghost use Rattle.ring_world.specs.Ring.{is_msg, launch};
 ghost use Rattle.ring_records.specs.Serving.{shown_in};
+ghost use Rattle.ring_records.specs.States.{durable_in};
 ghost use Rattle.ring_node.specs.Held.{IsShownBy};
 ghost use Rattle.ring_node.specs.Node.{state_of};
 ghost use Rattle.ring_world.specs.Capacity.{process, all_fresh};
@@ -161,7 +162,15 @@ impl Working {
         requires inside { node ≤ self.now.ring.size }
         ensures { result ≡ is_earned self.now.ring node upto }
     {
-        1 <= upto && upto <= self.desk(node).durable_taken()
+        1 <= upto && upto <= self.durable_taken(node)
+    }
+
+    // How many messages its durable inputs took.
+    fn durable_taken(&self, node: NodeNo) -> u64
+        requires inside { node ≤ self.now.ring.size }
+        ensures { result ≡ length (taken_in (durable_in (node_at self.now.ring node))) }
+    {
+        self.desk(node).durable_taken()
     }
 
     // Whether a neighbour may release what the request brings the node, if it brings anything.

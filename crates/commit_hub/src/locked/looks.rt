@@ -1,14 +1,9 @@
 // What a hub's locked state shows: a look, and for what its threads wait.
-ghost use Rattle.std.specs.Prelude.{◌≡◌, ◌+◌, ◌&&◌, not, List, length};
-ghost use Rattle.ring_records.specs.declared.input.Input.{Input};
-ghost use Rattle.ring_records.specs.Admission.{used};
-ghost use Rattle.ring_records.specs.States.{launched_base};
-ghost use Rattle.group_commit.specs.Desk.{seen};
+ghost use Rattle.std.specs.Prelude.{◌≡◌, ◌&&◌, not};
 ghost use Rattle.group_commit.specs.Next.{is_to_make_room};
-ghost use Rattle.group_commit.specs.Past.{IsPast};
 ghost use Rattle.commit_hub.specs.Desks.{is_resting, lands_next};
 ghost use Rattle.commit_hub.specs.Over.{is_over};
-ghost use Rattle.commit_hub.specs.Told.{IsLook, look_of, room_in, room_of};
+ghost use Rattle.commit_hub.specs.Told.{IsLook, look_at};
 
 use super::Locked;
 use crate::ledgers::NodeLedger;
@@ -17,15 +12,7 @@ use crate::look::Look;
 impl<A: NodeLedger> Locked<A> {
     /// What the desk shows.
     pub(crate) fn look(&self) -> Look
-        ensures counts { (past : List Input) → IsPast A.member A.opening past
-            → result ≡ look_of A.member (seen past self.now.shared.desk).state (room_of self.now.is_wanted self.now.shared.desk) (not (is_over self.now.shared.desk)) }
-        ensures room { room_in result ≡ room_of self.now.is_wanted self.now.shared.desk }
-        ensures epoch { result.epoch ≡ self.now.shared.desk.view.state.base.epoch }
-        ensures is_open { result.is_open ≡ not (is_over self.now.shared.desk) }
-        ensures inputs { result.shown.inputs ≡ self.now.shared.desk.opening.inputs + length self.now.shared.desk.view.state.inputs }
-        ensures durable { result.shown.durable ≡ self.now.shared.desk.opening.inputs + self.now.shared.desk.view.state.durable }
-        ensures used { result.used ≡ used (launched_base self.now.shared.desk.view.state) self.now.shared.desk.view.state.inputs }
-        ensures capacity { result.capacity ≡ A.member.capacity }
+        ensures value { result ≡ look_at self.now.is_wanted self.now.shared.desk }
         ensures lawful { IsLook A.member A.opening result }
     {
         let desk = &self.shared.desk;

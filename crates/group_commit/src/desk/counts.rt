@@ -1,23 +1,17 @@
-//! What a desk shows and counts of its inputs.
-ghost use Rattle.std.specs.Prelude.{◌≡◌, ◌+◌, ◌-◌, ◌^◌, ◌<◌, List, length, nat_lt};
+//! What a desk shows and counts of its inputs, by what it knows. `laws::counts` says what its whole history says of that.
+ghost use Rattle.std.specs.Prelude.{◌≡◌, ◌+◌, ◌-◌, ◌^◌, ◌<◌, length, nat_lt};
 ghost use Rattle.std.specs.FinMap as map;
-ghost use Rattle.ring_records.specs.declared.input.Input.{Input};
 ghost use Rattle.ring_records.specs.Admission.{newest, snapshot_len, used};
-ghost use Rattle.ring_records.specs.Emission.{sent};
-ghost use Rattle.ring_records.specs.History.{taken, credit, stands};
-ghost use Rattle.ring_records.specs.Leader.{leader};
-ghost use Rattle.ring_records.specs.States.{launched_base, durable_in};
-ghost use Rattle.ring_records.specs.Serving.{shown_in};
-ghost use Rattle.ring_records.specs.Lawful.{IsNodeState, IsLawfulState};
-ghost use Rattle.ring_records.specs.Summary.{floors_in, summary};
+ghost use Rattle.ring_records.specs.States.{launched_base};
+ghost use Rattle.ring_records.specs.Lawful.{IsNodeState};
 
 use crate::desk::Desk;
 use ring_records::{Candidate, Key, Shown};
 
 impl Desk {
-    ghost use Rattle.group_commit.specs.Desk.{seen};
-    ghost use Rattle.group_commit.specs.Past.{IsPast};
-    ghost use Rattle.group_commit.specs.Since.{IsKnownState};
+    ghost use Rattle.group_commit.specs.Desk.{known_all, known_durable, shown_all};
+    ghost use Rattle.group_commit.specs.Leads.{leader_by};
+    ghost use Rattle.group_commit.specs.Since.{IsKnownDesk};
 
     /// How many inputs the summary of its opening stands for: the number of the first input since.
     pub fn first(&self) -> u64
@@ -30,9 +24,8 @@ impl Desk {
     pub fn accepted(&self) -> u64
         ensures value { result ≡ self.now.opening.inputs + length self.now.view.state.inputs }
         ensures counts { IsNodeState self.now.view.state }
-        ensures known { IsKnownState self.now.view.member self.now.opening self.now.view.state }
+        ensures known { IsKnownDesk self.now }
         ensures bound { result < 2 ^ 64 - 1 }
-        ensures lawful { (past : List Input) → IsPast self.now.view.member self.now.opening past → IsLawfulState self.now.view.member (seen past self.now).state }
     {
         self.base.inputs + self.inputs.count
     }
@@ -74,31 +67,33 @@ impl Desk {
 
     /// How many messages its inputs sent to the successor.
     pub fn sent(&self) -> u64
-        ensures { (past : List Input) → IsPast self.now.view.member self.now.opening past → result ≡ length (sent self.now.view.member.node (seen past self.now).state.inputs) }
+        ensures value { result ≡ (known_all self.now).sent }
+        ensures known { IsKnownDesk self.now }
     {
         self.core.sent()
     }
 
     /// How many messages of the predecessor its inputs took.
     pub fn taken(&self) -> u64
-        ensures { (past : List Input) → IsPast self.now.view.member self.now.opening past → result ≡ length (taken (seen past self.now).state.inputs) }
+        ensures value { result ≡ (known_all self.now).taken }
+        ensures known { IsKnownDesk self.now }
     {
         self.core.taken()
     }
 
     /// The last credit of the successor, 0 before the first: so many messages the successor is known to have taken.
     pub fn credit(&self) -> u64
-        ensures { (past : List Input) → IsPast self.now.view.member self.now.opening past → result ≡ credit (seen past self.now).state.inputs }
+        ensures value { result ≡ (known_all self.now).credit }
+        ensures known { IsKnownDesk self.now }
     {
         self.core.credit()
     }
 
     /// What it shows: the counts of its inputs, those that are summarised among them, and how far the links are.
     pub fn shown(&self) -> Shown
-        ensures value { (past : List Input) → IsPast self.now.view.member self.now.opening past → result ≡ shown_in self.now.view.member.node (seen past self.now).state }
+        ensures value { result ≡ shown_all self.now }
         ensures counts { (result.inputs ≡ self.now.opening.inputs + length self.now.view.state.inputs) × (result.durable ≡ self.now.opening.inputs + self.now.view.state.durable) }
-        ensures known { IsKnownState self.now.view.member self.now.opening self.now.view.state }
-        ensures lawful { (past : List Input) → IsPast self.now.view.member self.now.opening past → IsLawfulState self.now.view.member (seen past self.now).state }
+        ensures known { IsKnownDesk self.now }
     {
         Shown {
             inputs: self.accepted(),
@@ -111,7 +106,8 @@ impl Desk {
 
     /// The leader that its inputs make known for a key, also where they are not durable; none where the key is retired.
     pub fn who(&self, key: &Key) -> Option<Candidate>
-        ensures { (past : List Input) → IsPast self.now.view.member self.now.opening past → result ≡ leader self.now.view.member.node (seen past self.now).state.inputs key.now }
+        ensures value { result ≡ leader_by (known_all self.now) key.now }
+        ensures known { IsKnownDesk self.now }
     {
         match self.core.who(key) {
             Ok(leader) => leader,
@@ -121,7 +117,8 @@ impl Desk {
 
     /// How many messages of the predecessor its durable inputs took: so many it may credit.
     pub fn durable_taken(&self) -> u64
-        ensures { (past : List Input) → IsPast self.now.view.member self.now.opening past → result ≡ length (taken (durable_in (seen past self.now).state)) }
+        ensures value { result ≡ (known_durable self.now).taken }
+        ensures known { IsKnownDesk self.now }
     {
         self.outbox.released.taken
     }
@@ -129,29 +126,28 @@ impl Desk {
     /// The bytes of its capacity that are taken: by the area of the journal that is in use once what flies is durable, and
     /// by the inputs behind those that this stands for.
     pub fn used(&self) -> u64
-        ensures value { result ≡ used (launched_base self.now.view.state) self.now.view.state.inputs }
-        ensures known { (past : List Input) → IsPast self.now.view.member self.now.opening past → result ≡ used (launched_base (seen past self.now).state) (seen past self.now).state.inputs }
+        ensures { result ≡ used (launched_base self.now.view.state) self.now.view.state.inputs }
     {
         self.core.used()
     }
 
     /// How many of its inputs are Stands, at most 1,024; those that are summarised are counted.
     pub fn stands(&self) -> u32
-        ensures { (past : List Input) → IsPast self.now.view.member self.now.opening past → result ≡ stands (seen past self.now).state.inputs }
+        ensures { result ≡ (known_all self.now).stands }
     {
         self.core.stands()
     }
 
     /// How many groups have a floor.
     pub fn floor_count(&self) -> usize
-        ensures { (past : List Input) → IsPast self.now.view.member self.now.opening past → result ≡ map.len (floors_in (seen past self.now).state.inputs) }
+        ensures { result ≡ map.len (known_all self.now).floors }
     {
         self.core.floor_count()
     }
 
     /// The length of the snapshot of all its inputs, in bytes: that of the next checkpoint.
     pub fn summary_len(&self) -> u64
-        ensures { (past : List Input) → IsPast self.now.view.member self.now.opening past → result ≡ snapshot_len newest (summary self.now.view.member.node (seen past self.now).state.inputs) }
+        ensures { result ≡ snapshot_len newest (known_all self.now) }
     {
         self.core.summary_len()
     }

@@ -3,6 +3,7 @@ use Rattle.std.proofs.lemmas.List.{take_all, length-drop}
 use Rattle.ring_records.specs.History.{credit}
 use Rattle.ring_records.specs.Release.{window}
 use Rattle.group_commit.specs.Desk.{seen}
+use Rattle.group_commit.proofs.Seen.{all_seen}
 use Rattle.ring_node.specs.Messages.{carried_in}
 use Rattle.ring_node.proofs.Again.{caught_up, known_within, room_within}
 use Rattle.ring_node.proofs.restart.caught_up.Goals as goal
@@ -16,7 +17,8 @@ window_is c =
 
 pub overflow_sub-known : goal.overflow_sub-known
 overflow_sub-known c =
-    let credited = c.credit.ensures c.args.past.now.items c.requires.behind in
+    let known = all_seen c.args.past.now.items c.args.desk.now c.requires.behind c.credit.ensures.known in
+    let credited = c.credit.ensures.value ∙ (λ i. (known i).credit) in
     let count : c.len-2.result ≡ length c.args.messages.items = search rules in
     let few = c.requires.credited in
     omega arith
@@ -25,7 +27,8 @@ overflow_sub-known c =
 known_is : (c : After-deref) → c.len-2.result - c.credit.result ≡ length c.args.messages.items - credit (seen c.args.past.now.items c.args.desk.now).state.inputs
 known_is c =
     let count : c.len-2.result ≡ length c.args.messages.items = search rules in
-    let credited = c.credit.ensures c.args.past.now.items c.requires.behind in
+    let known = all_seen c.args.past.now.items c.args.desk.now c.requires.behind c.credit.ensures.known in
+    let credited = c.credit.ensures.value ∙ (λ i. (known i).credit) in
     omega arith
 
 inside : (c : After-deref) → c.len-2.result - c.credit.result ≤ length c.deref.result.now

@@ -6,6 +6,7 @@ use Rattle.group_commit.specs.Desk.{DeskKept, landed}
 use Rattle.commit_hub.specs.Holders.{known_by}
 use Rattle.ring_records.specs.States.{flying_in}
 use Rattle.group_commit.proofs.Costs.{flown}
+use Rattle.group_commit.proofs.Seen.{lawful_desk}
 use Rattle.group_commit.specs.Next.{Durable, durable_part, with_area, with_batch}
 use Rattle.commit_hub.specs.Ties.{TieView}
 use Rattle.commit_hub.specs.Told.{IsBrought}
@@ -67,7 +68,7 @@ returns-in-Ok-clause-tied g c = record {
       let desk = old.shared.desk in
       let since = ap (λ (d : Durable). d.inputs) (ap (λ (v : TieView). v.durable) c.audit.ensures.equal ∙ old.held_is) in
       named (λ m opening. IsBrought m opening (known_by c.args.tie.now).inputs (receipted c.args.receipt).inputs c.in-Ok.landed) desk _ _ old.of old.opening
-      (brings desk c.land.new.self _ _ c.in-Ok.landed old.counts c.in-Ok.ensures.next c.accepted-accepted.ensures.lawful since
+      (brings desk c.land.new.self _ _ c.in-Ok.landed old.counts c.in-Ok.ensures.next (lawful_desk c.land.new.self c.accepted-accepted.ensures.known) since
       c.in-Ok.ensures.flying.inputs c.in-Ok.ensures.packets c.in-Ok.ensures.notices);
   batch =
       let old = c.args.self.now in

@@ -17,6 +17,7 @@ use Rattle.group_commit.proofs.Checkpoints.{idle_free, may_launch, next_refused,
 use Rattle.group_commit.proofs.Costs.{durable_costs, durable_count, flown_costs, launched_counts, not_durable}
 use Rattle.group_commit.proofs.Since.{may_renew}
 use Rattle.group_commit.proofs.Flies.{flies_all, flies_batch}
+use Rattle.group_commit.proofs.Seen.{lawful_desk}
 use Rattle.group_commit.proofs.desk.Desk.launch_next.Goals as goal
 
 pub returns-in-Ok-clause-fits : goal.returns-in-Ok-clause-fits
@@ -53,7 +54,7 @@ returns-in-Ok-clause-fits c =
           let from = desk.opening.inputs + s.durable in
           let snapshot = Some (snapshot_len newest (known_all desk)) in
           let flown = launch.checkpoint ∙ ap (λ (d : DeskKept). numbered_with m.node from (flying_in d.view.state) snapshot) launch.next in
-          subst (FliesLawfully m desk.opening (durable_part desk)) (sym flown) (flies_all desk idle counts c.accepted-accepted.ensures.lawful m.node from)
+          subst (FliesLawfully m desk.opening (durable_part desk)) (sym flown) (flies_all desk idle counts (lawful_desk desk c.accepted-accepted.ensures.known) m.node from)
           );
     }
 
@@ -78,7 +79,7 @@ returns-in-Ok-Some-clause-fits c =
           let from = desk.opening.inputs + s.durable in
           let flown = is ∙ ap (λ (d : DeskKept). numbered desk.view.member.node from (flying_in d.view.state)) launch.next in
           subst (FliesLawfully desk.view.member desk.opening (durable_part desk)) (sym flown)
-          (flies_batch desk (idle_free desk.view launch.free) counts c.accepted-accepted.ensures.lawful desk.view.member.node from)
+          (flies_batch desk (idle_free desk.view launch.free) counts (lawful_desk desk c.accepted-accepted.ensures.known) desk.view.member.node from)
           );
     }
 

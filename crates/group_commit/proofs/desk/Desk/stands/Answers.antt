@@ -1,15 +1,7 @@
-use Rattle.std.proofs.Common.{◌≡◌, ◌∙◌, List, subst}
-use Rattle.ring_records.specs.declared.input.Input.{Input}
-use Rattle.ring_records.specs.History.{stands}
-use Rattle.group_commit.specs.Desk.{DeskKept, seen}
-use Rattle.group_commit.specs.Past.{IsPast}
-use Rattle.group_commit.proofs.Inside.{member_in, state_in}
-use Rattle.group_commit.proofs.Past.{core_knows}
+use Rattle.std.proofs.Common.{ap, ◌∙◌}
+use Rattle.node_core.specs.Core.{CoreView}
+use Rattle.group_commit.specs.Desk.{DeskKept, known_all}
 use Rattle.group_commit.proofs.desk.Desk.stands.Goals as goal
 
 pub returns : goal.returns
-returns c =
-    let d = c.self.inside in
-    subst (λ (v : DeskKept). (past : List Input) → IsPast v.view.member v.opening past → c.stands.result ≡ stands (seen past v).state.inputs) c.self.view_is (λ past is.
-    let known = core_knows (member_in d) d.base past (state_in d) d.core is c.self.invariant.state c.self.invariant.knows in
-    c.stands.ensures.value ∙ (λ i. (known i).stands))
+returns c = c.stands.ensures ∙ (ap (λ (v : CoreView). v.known.stands) c.self.invariant.knows ∙ ap (λ (v : DeskKept). (known_all v).stands) c.self.view_is)

@@ -1,15 +1,11 @@
-use Rattle.std.proofs.Common.{◌≡◌, ◌∙◌, List, subst, length}
-use Rattle.ring_records.specs.declared.input.Input.{Input}
-use Rattle.ring_records.specs.History.{taken}
-use Rattle.group_commit.specs.Desk.{DeskKept, seen}
-use Rattle.group_commit.specs.Past.{IsPast}
-use Rattle.group_commit.proofs.Inside.{member_in, state_in}
-use Rattle.group_commit.proofs.Past.{core_knows}
+use Rattle.std.proofs.Common.{ap, ◌∙◌, subst}
+use Rattle.node_core.specs.Core.{CoreView}
+use Rattle.group_commit.specs.Desk.{DeskKept, known_all}
+use Rattle.group_commit.specs.Since.{IsKnownDesk}
 use Rattle.group_commit.proofs.desk.Desk.taken.Goals as goal
 
-pub returns : goal.returns
-returns c =
-    let d = c.self.inside in
-    subst (λ (v : DeskKept). (past : List Input) → IsPast v.view.member v.opening past → c.taken.result ≡ length (taken (seen past v).state.inputs)) c.self.view_is (λ past is.
-    let known = core_knows (member_in d) d.base past (state_in d) d.core is c.self.invariant.state c.self.invariant.knows in
-    c.taken.ensures.value ∙ (λ i. (known i).taken))
+pub returns-clause-value : goal.returns-clause-value
+returns-clause-value c = c.taken.ensures ∙ (ap (λ (v : CoreView). v.known.taken) c.self.invariant.knows ∙ ap (λ (v : DeskKept). (known_all v).taken) c.self.view_is)
+
+pub returns-clause-known : goal.returns-clause-known
+returns-clause-known c = subst IsKnownDesk c.self.view_is c.self.invariant.state

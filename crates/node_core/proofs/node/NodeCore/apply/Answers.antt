@@ -2,11 +2,10 @@ use Rattle.std.proofs.Common.{◌≡◌, ◌+◌, ◌≤◌, ◌∙◌, None, sy
 use Rattle.ring_records.specs.declared.summary.Summary.{Summary}
 use Rattle.ring_records.specs.Admission.{newest, snapshot_len}
 use Rattle.ring_records.specs.Known.{Objects}
-use Rattle.node_core.specs.declared.effects.Effects.{Effects}
 use Rattle.node_core.specs.Brought.{brought}
 use Rattle.node_core.specs.Core.{CoreView}
 use Rattle.node_core.specs.FreeCore.{FreeView}
-use Rattle.node_core.proofs.Histories.{carries, tells, goes_on}
+use Rattle.node_core.proofs.Histories.{goes_on}
 use Rattle.node_core.proofs.Measures.{few_inputs, one_more, within_next}
 use Rattle.node_core.proofs.Refusals.{objects_none, stepped_core}
 use Rattle.node_core.proofs.Retiring.{counted_next, stood_count}
@@ -50,14 +49,6 @@ returns-clause-steps c = stepped_core c.args.self.now c.self.inside.core c.apply
 
 pub returns-clause-brings : goal.returns-clause-brings
 returns-clause-brings c = c.in_ok-effects.ensures.brings ∙ ap (λ (v : CoreView). brought v.me v.known c.args.input) c.self.view_is
-
-pub returns-clause-carry : goal.returns-clause-carry
-returns-clause-carry c = λ base h s.
-    ap (λ (e : Effects). e.carry) (c.in_ok-effects.ensures.brings ∙ ap (λ (v : CoreView). brought v.me v.known c.args.input) c.self.view_is) ∙ carries c.args.self.now.me c.args.self.now.known h c.args.input s.knows
-
-pub returns-clause-told : goal.returns-clause-told
-returns-clause-told c = λ base h s.
-    ap (λ (e : Effects). e.notice) (c.in_ok-effects.ensures.brings ∙ ap (λ (v : CoreView). brought v.me v.known c.args.input) c.self.view_is) ∙ tells c.args.self.now.me c.args.self.now.known h c.args.input s.knows
 
 pub returns-clause-stands : goal.returns-clause-stands
 returns-clause-stands c = λ base h s.
