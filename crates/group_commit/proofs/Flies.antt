@@ -65,7 +65,7 @@ all_counts desk counts = record {
 
 -- ---- a desk of which nothing flies
 
-idle_flies : (s : NodeState) → is_idle s ≡ true → s.flying ≡ s.durable
+pub idle_flies : (s : NodeState) → is_idle s ≡ true → s.flying ≡ s.durable
 idle_flies s idle = eqb-true s.flying s.durable (and_parts (nat_eq s.flying s.durable) (is_none s.checkpoint) idle).0
 
 idle_behind : (past : List Input) (s : NodeState) → is_idle s ≡ true → is_idle (shifted past s) ≡ true

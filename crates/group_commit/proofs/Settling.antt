@@ -1,6 +1,7 @@
 -- What an outbox holds as inputs are accepted, fly and land.
-use Rattle.std.proofs.Common.{◌≡◌, ℕ, zero, suc, ◌+◌, ◌-◌, ◌<◌, List, [], ◌∷◌, ◌++◌, length, take, drop, None, refl, sym, ap, ◌∙◌, subst, append_assoc, add-one, arith}
+use Rattle.std.proofs.Common.{◌≡◌, ℕ, zero, suc, ◌+◌, ◌-◌, ◌<◌, List, [], ◌∷◌, ◌++◌, length, take, drop, append-nil, Option, Some, None, refl, sym, ap, ◌∙◌, subst, append_assoc, add-one, arith}
 use Rattle.std.specs.List.{cons_option}
+use Rattle.std.specs.Option.{option_map}
 use Rattle.std.proofs.lemmas.List.{take_all, length-take-le}
 use Rattle.std.proofs.lemmas.List.Sums.{fold-append}
 use Rattle.ring_records.specs.declared.input.Input.{Input}
@@ -14,7 +15,7 @@ use Rattle.node_core.specs.declared.effects.Effects.{Effects}
 use Rattle.group_commit.specs.declared.landed.Landed.{Landed}
 use Rattle.group_commit.specs.declared.outbox.Outbox.{Outbox}
 use Rattle.group_commit.specs.declared.released.Released.{Released}
-use Rattle.group_commit.specs.Outbox.{AreFree, brought_after, carried, told_in, Keeps, HasRoom, IsReady, IsBlank, Holds}
+use Rattle.group_commit.specs.Outbox.{AreFree, brought_after, carried, told_in, Keeps, HasRoom, IsReady, IsBlank, IsLoaded, IsStill, IsWith, Holds}
 
 -- ---- what inputs bring
 
@@ -77,6 +78,29 @@ waits_next me flying old new s l x effects holds brings same_released same_landi
   count = subst (λ (l : Landed). 0 < flying → l.count ≡ flying) (sym same_landing) holds.count;
 }
 
+-- it holds what it held
+pub holds_with : (me flying : ℕ) (old new : Outbox) (s : Summary) (l : List Input) → IsWith old new old.waiting.items → Holds me old s l flying → Holds me new s l flying
+holds_with me flying old new s l is holds = record {
+  released = subst (λ (r : Released). Keeps r s) (sym is.released) holds.released;
+  waiting = is.waiting ∙ holds.waiting;
+  room = subst (λ (r : Released). HasRoom r flying) (sym is.released) holds.room;
+  blank = subst IsBlank (sym is.landing) holds.blank;
+  ready = subst (λ (l : Landed). 0 < flying → IsReady l flying) (sym is.landing) holds.ready;
+  count = subst (λ (l : Landed). 0 < flying → l.count ≡ flying) (sym is.landing) holds.count;
+}
+
+-- and what one input more brings, if there is one
+pub holds_gained : (me flying : ℕ) (old new : Outbox) (s : Summary) (l : List Input) (known : Summary) (o : Option Input) → known ≡ after me s l
+    → IsWith old new (old.waiting.items ++ cons_option (option_map (brought me known) o) []) → Holds me old s l flying → Holds me new s (l ++ cons_option o []) flying
+holds_gained me flying old new s l known (Some x) knows is holds =
+    waits_next me flying old new s l x (brought me known x) holds (ap (λ (k : Summary). brought me k x) knows) is.released is.landing is.waiting
+holds_gained me flying old new s l known None knows is holds =
+    subst (λ (k : List Input). Holds me new s k flying) (sym (append-nil l))
+    (holds_with me flying old new s l (record { released = is.released; waiting = is.waiting ∙ append-nil old.waiting.items; landing = is.landing }) holds)
+
+pub ends_with : {A : Type 0} (xs ys : List A) (a b : A) → xs ≡ ys ++ a ∷ [] → a ≡ b → xs ≡ ys ++ b ∷ []
+ends_with xs ys a b is same = is ∙ ap (λ c. ys ++ c ∷ []) same
+
 -- the memory for what flies is there, or nothing flies
 pub holds_loaded : (me flying count : ℕ) (old new : Outbox) (s : Summary) (l : List Input) → Holds me old s l flying → new.waiting ≡ old.waiting
     → Keeps new.released s → HasRoom new.released count
@@ -97,6 +121,18 @@ holds_still me flying outbox s l holds = record {
   ready = λ less. absurd (omega (arith, less));
   count = λ less. absurd (omega (arith, less));
 }
+
+-- with memory for what flies, and without
+pub loaded_holds : (me count : ℕ) (old new : Outbox) (s : Summary) (l : List Input) → IsLoaded old new count → Holds me old s l 0 → Holds me new s l count
+loaded_holds me count old new s l is holds =
+    record { released = is.released s holds.released; waiting = is.waiting ∙ holds.waiting; room = is.room; blank = is.blank; ready = λ some. is.ready; count = λ some. is.count }
+
+pub still_holds : (me : ℕ) (old new : Outbox) (s : Summary) (l : List Input) → IsStill old new → Holds me old s l 0 → Holds me new s l 0
+still_holds me old new s l is holds =
+    record { released = is.released s holds.released; waiting = is.waiting ∙ holds.waiting; room = omega arith; blank = is.blank holds.blank; ready = idle; count = idle }
+
+pub still_loaded : (old new : Outbox) (count : ℕ) → IsLoaded old new count → IsStill old new
+still_loaded old new count is = record { released = is.released; waiting = is.waiting; blank = λ blank. is.blank }
 
 -- ---- what flies lands
 

@@ -75,3 +75,26 @@ pub record Holds (me : ℕ) (outbox : Outbox) (s : Summary) (l : List Input) (fl
   pub blank : IsBlank outbox.landing
   pub ready : 0 < flying → IsReady outbox.landing flying
   pub count : 0 < flying → outbox.landing.count ≡ flying
+
+-- ---- what becomes of it
+
+-- it has what it had, but these effects wait
+pub record IsWith (old new : Outbox) (effects : List Effects) : Type 0 where
+  pub released : new.released ≡ old.released
+  pub waiting : new.waiting.items ≡ effects
+  pub landing : new.landing ≡ old.landing
+
+-- it has what it had, and memory for what so many inputs bring, which fly
+pub record IsLoaded (old new : Outbox) (flying : ℕ) : Type 0 where
+  pub released : (s : Summary) → Keeps old.released s → Keeps new.released s
+  pub waiting : new.waiting.items ≡ old.waiting.items
+  pub room : HasRoom new.released flying
+  pub blank : IsBlank new.landing
+  pub ready : IsReady new.landing flying
+  pub count : new.landing.count ≡ flying
+
+-- it has what it had, and nothing flies
+pub record IsStill (old new : Outbox) : Type 0 where
+  pub released : (s : Summary) → Keeps old.released s → Keeps new.released s
+  pub waiting : new.waiting.items ≡ old.waiting.items
+  pub blank : IsBlank old.landing → IsBlank new.landing

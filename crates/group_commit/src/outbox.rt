@@ -40,7 +40,7 @@ pub(crate) struct Outbox {
 }
 
 impl Outbox {
-    ghost use Rattle.group_commit.specs.Outbox.{Holds, AreFree, carried, told_in, credit_since};
+    ghost use Rattle.group_commit.specs.Outbox.{Holds, IsLoaded, IsStill, IsWith, AreFree, carried, told_in, credit_since};
 
     /// That of a node that knows this by its durable inputs. The caller sees that it is sound for a ring of `n`. The error is
     /// that of the allocator.
@@ -71,10 +71,9 @@ impl Outbox {
     pub(crate) fn accept(&mut self, core: &mut NodeCore, input: &Input) -> Result<(), AllocError>
         requires { Refuses core.old input.now None }
         ensures steps { OnOk result (core.new ≡ record core.old { known = stepped core.old.me core.old.known input.now; room = taking input.now core.old.room }) }
-        ensures holds { OnOk result ((s : Summary) (l : List Input) (flying : ℕ) → core.old.known ≡ after core.old.me s l → Holds core.old.me self.old s l flying
-            → Holds core.old.me self.new s (l ++ input.now ∷ []) flying) }
+        ensures waits { OnOk result (IsWith self.old self.new (self.old.waiting.items ++ brought core.old.me core.old.known input.now ∷ [])) }
         ensures err { OnErr result (core.new ≡ core.old) }
-        ensures same { OnErr result ((me flying : ℕ) (s : Summary) (l : List Input) → Holds me self.old s l flying → Holds me self.new s l flying) }
+        ensures same { OnErr result (IsWith self.old self.new self.old.waiting.items) }
     {
         self.waiting.reserve(1)?;
         match core.apply(*input) {
@@ -89,8 +88,8 @@ impl Outbox {
     /// Takes the memory for what so many inputs bring, which fly from now on.
     pub(crate) fn load(&mut self, count: u64) -> Result<(), AllocError>
         requires few { count < 2 ^ 63 }
-        ensures holds { OnOk result ((me : ℕ) (s : Summary) (l : List Input) → Holds me self.old s l 0 → Holds me self.new s l count) }
-        ensures err { OnErr result ((me : ℕ) (s : Summary) (l : List Input) → Holds me self.old s l 0 → Holds me self.new s l 0) }
+        ensures loaded { OnOk result (IsLoaded self.old self.new count) }
+        ensures err { OnErr result (IsStill self.old self.new) }
     {
         let alloc = *self.waiting.allocator();
         self.released.reserve(count as usize)?;

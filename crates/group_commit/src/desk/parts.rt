@@ -1,17 +1,19 @@
 // What a desk has its core and its outbox do.
 ghost use Rattle.std.specs.Prelude.{◌≡◌, ◌+◌, ◌-◌, ◌^◌, ◌++◌, ◌∷◌, ◌≤◌, ◌<◌, ◌⊎◌, ℕ, List, [], false, Some, None, length, take, IfSome, IfOk, IfErr, OnOk, OnErr};
 ghost use Rattle.std.specs.List.{cons_option};
+ghost use Rattle.std.specs.Option.{option_map};
 ghost use Rattle.ring_records.specs.declared.input.Input.{Input};
 ghost use Rattle.ring_records.specs.declared.summary.Summary.{Summary};
 ghost use Rattle.ring_records.specs.Admission.{newest};
 ghost use Rattle.ring_records.specs.Known.{after, stepped};
 ghost use Rattle.ring_records.specs.Snapshot.{IsSound, snapshot_len};
 ghost use Rattle.gated_journal.specs.Batch.{shown as batch_shown, numbered, numbered_with, numbered_by, base_by};
+ghost use Rattle.node_core.specs.Brought.{brought};
 ghost use Rattle.node_core.specs.Core.{IsNodeOf, Refuses};
 ghost use Rattle.node_core.specs.FreeCore.{taking};
 ghost use Rattle.group_commit.specs.Inputs.{KeepsMarks};
 ghost use Rattle.group_commit.specs.Opening.{core_after, IsKnownLawful, IsUnlawful};
-ghost use Rattle.group_commit.specs.Outbox.{Holds};
+ghost use Rattle.group_commit.specs.Outbox.{Holds, IsLoaded, IsStill, IsWith};
 
 use crate::inputs::Inputs;
 use crate::outbox::Outbox;
@@ -59,10 +61,9 @@ pub(super) fn accept(
     ensures inputs { OnOk result (inputs.new.all.list ≡ inputs.old.all.list ++ cons_option input.now []) }
     ensures marks { KeepsMarks inputs.old inputs.new }
     ensures knows { OnOk result (core.new ≡ core_after core.old (cons_option input.now [])) }
-    ensures holds { OnOk result ((s : Summary) (l : List Input) (flying : ℕ) → core.old.known ≡ after core.old.me s l → Holds core.old.me outbox.old s l flying
-        → Holds core.old.me outbox.new s (l ++ cons_option input.now []) flying) }
+    ensures waits { OnOk result (IsWith outbox.old outbox.new (outbox.old.waiting.items ++ cons_option (option_map (brought core.old.me core.old.known) input.now) [])) }
     ensures err { OnErr result ((inputs.new.all.list ≡ inputs.old.all.list) × (core.new ≡ core.old)) }
-    ensures same { OnErr result ((me flying : ℕ) (s : Summary) (l : List Input) → Holds me outbox.old s l flying → Holds me outbox.new s l flying) }
+    ensures same { OnErr result (IsWith outbox.old outbox.new outbox.old.waiting.items) }
 {
     match input {
         Some(input) => accept_one(core, inputs, outbox, input),
@@ -81,10 +82,9 @@ fn accept_one(
     ensures inputs { OnOk result (inputs.new.all.list ≡ inputs.old.all.list ++ input.now ∷ []) }
     ensures marks { KeepsMarks inputs.old inputs.new }
     ensures steps { OnOk result (core.new ≡ record core.old { known = stepped core.old.me core.old.known input.now; room = taking input.now core.old.room }) }
-    ensures holds { OnOk result ((s : Summary) (l : List Input) (flying : ℕ) → core.old.known ≡ after core.old.me s l → Holds core.old.me outbox.old s l flying
-        → Holds core.old.me outbox.new s (l ++ input.now ∷ []) flying) }
+    ensures waits { OnOk result (IsWith outbox.old outbox.new (outbox.old.waiting.items ++ brought core.old.me core.old.known input.now ∷ [])) }
     ensures err { OnErr result ((inputs.new.all.list ≡ inputs.old.all.list) × (core.new ≡ core.old)) }
-    ensures same { OnErr result ((me flying : ℕ) (s : Summary) (l : List Input) → Holds me outbox.old s l flying → Holds me outbox.new s l flying) }
+    ensures same { OnErr result (IsWith outbox.old outbox.new outbox.old.waiting.items) }
 {
     inputs.reserve()?;
     outbox.accept(core, input)?;
@@ -102,9 +102,9 @@ pub(super) fn prepare(
     requires some { 0 < length inputs.now }
     requires few { length inputs.now ≤ BATCH_INPUTS }
     ensures batch { IfOk result (λ batch. batch_shown batch ≡ numbered node first inputs.now) }
-    ensures holds { OnOk result ((me : ℕ) (s : Summary) (l : List Input) → Holds me outbox.old s l 0 → Holds me outbox.new s l (length inputs.now)) }
+    ensures loaded { OnOk result (IsLoaded outbox.old outbox.new (length inputs.now)) }
     ensures refusal { IfErr result (λ refusal. refusal ≡ Refusal.OutOfMemory) }
-    ensures err { OnErr result ((me : ℕ) (s : Summary) (l : List Input) → Holds me outbox.old s l 0 → Holds me outbox.new s l 0) }
+    ensures err { OnErr result (IsStill outbox.old outbox.new) }
 {
     if outbox.load(inputs.len() as u64).is_err() {
         return Err(Refusal::OutOfMemory);
@@ -128,10 +128,10 @@ pub(super) fn summarise(
     ensures summary { IfOk result (λ made. base_by made ≡ core.old.known) }
     ensures sound { OnOk result (IsNodeOf core.old.size core.old.me → IsSound core.old.size core.old.known) }
     ensures rebased { OnOk result (core.new ≡ record core.old { room = record { layout = newest; epoch = epoch; taken = snapshot_len newest core.old.known; waits = false } }) }
-    ensures holds { OnOk result ((me : ℕ) (s : Summary) (l : List Input) → Holds me outbox.old s l 0 → Holds me outbox.new s l (length inputs.now)) }
+    ensures loaded { OnOk result (IsLoaded outbox.old outbox.new (length inputs.now)) }
     ensures refusal { IfErr result (λ refusal. refusal ≡ Refusal.OutOfMemory) }
     ensures same { OnErr result (core.new ≡ core.old) }
-    ensures err { OnErr result ((me : ℕ) (s : Summary) (l : List Input) → Holds me outbox.old s l 0 → Holds me outbox.new s l 0) }
+    ensures err { OnErr result (IsStill outbox.old outbox.new) }
 {
     let count = inputs.len() as u64;
     if outbox.load(count).is_err() {

@@ -11,10 +11,12 @@ use Rattle.group_commit.specs.declared.desk.Desk.TheInside.{Inside}
 use Rattle.group_commit.specs.Opening.{waits_for_area}
 use Rattle.group_commit.specs.Outbox.{Holds}
 use Rattle.group_commit.specs.Since.{IsLawfulSince}
+use Rattle.group_commit.proofs.Checkpoints.{idle_free}
+use Rattle.group_commit.proofs.Flies.{idle_flies}
 use Rattle.group_commit.proofs.Inside.{member_in, area_in, shown_by}
 use Rattle.group_commit.proofs.KeptInputs.{kept_launched}
 use Rattle.group_commit.proofs.Landing.{part-length}
-use Rattle.group_commit.proofs.Settling.{holds_still}
+use Rattle.group_commit.proofs.Settling.{holds_still, loaded_holds, still_holds}
 use Rattle.group_commit.proofs.Since.{known_launched, core_launched, first_fit, plain_suited}
 use Rattle.group_commit.proofs.desk.Desk.launch.Goals as goal
 
@@ -46,7 +48,7 @@ invariant_of-self c =
       sound = i.sound;
       knows = i.knows ∙ core_launched (member_in d) d.base (area_in d) d.inputs.all.list d.durable d.flying c.min-end.result d.pending none;
       state = known_launched (member_in d) d.base (area_in d) d.inputs.all.list d.durable d.flying c.min-end.result d.pending none low within (plain_in d c.args.self.now c.self.view_is c.requires.plain none) i.state;
-      holds = subst (λ k. Holds d.node c.prepare.new.outbox s waits k) count (c.in-Ok.ensures.holds d.node s waits (holds_still d.node _ d.outbox _ _ i.holds));
+      holds = subst (λ k. Holds d.node c.prepare.new.outbox s waits k) count (loaded_holds d.node _ d.outbox c.prepare.new.outbox s waits c.in-Ok.ensures.loaded (holds_still d.node _ d.outbox _ _ i.holds));
       kept = kept_launched (member_in d) d.base (area_in d) d.inputs.all.list d.durable d.flying c.min-end.result d.pending d.inputs none i.kept;
       given = i.given;
       answers = i.answers;
@@ -69,3 +71,23 @@ returns-in-Ok-clause-fits c =
     let based = i.state.counts.based in
     first_fit (member_in d) d.base (area_in d) c.min-end.result d.inputs.all.list
     (subst (λ b. IsLawfulSince (member_in d) d.base b d.inputs.all.list) (ap (λ o. launched_base (state_with (area_in d) d.inputs.all.list d.durable d.flying o)) none) i.state.all) (plain_in d c.args.self.now c.self.view_is c.requires.plain none) (omega (arith, some, based)) within
+
+pub invariant_of-self-in-Err : goal.invariant_of-self-in-Err
+invariant_of-self-in-Err c =
+    let d = c.self.inside in
+    let i = c.self.invariant in
+    let s = after d.node d.base (take d.durable d.inputs.all.list) in
+    let waits = drop d.durable d.inputs.all.list in
+    let free : c.launch_objection.result ≡ None = search rules in
+    let idle = idle_flies c.args.self.now.view.state (idle_free c.args.self.now.view (sym c.launch_objection.ensures ∙ free)) in
+    let same : d.flying ≡ d.durable = ap (λ (v : DeskKept). v.view.state.flying) c.self.view_is ∙ idle ∙ sym (ap (λ (v : DeskKept). v.view.state.durable) c.self.view_is) in
+    let none : d.flying - d.durable ≡ 0 = omega (arith, same) in
+    record {
+      sound = i.sound;
+      knows = i.knows;
+      state = i.state;
+      holds = subst (λ k. Holds d.node c.prepare.new.outbox s waits k) (sym none) (still_holds d.node d.outbox c.prepare.new.outbox s waits c.in-Err.ensures.err (holds_still d.node _ d.outbox _ _ i.holds));
+      kept = i.kept;
+      given = i.given;
+      answers = i.answers;
+    }

@@ -15,11 +15,12 @@ use Rattle.group_commit.specs.Outbox.{Holds}
 use Rattle.group_commit.specs.Past.{IsPast}
 use Rattle.group_commit.specs.declared.all_inputs.AllInputs.{AllInputs}
 use Rattle.group_commit.proofs.Checkpoints.{MayLaunch, may_launch, none_pending}
+use Rattle.group_commit.proofs.Flies.{idle_flies}
 use Rattle.group_commit.proofs.Inside.{member_in, area_in, state_in}
 use Rattle.group_commit.proofs.KeptInputs.{kept_all}
 use Rattle.group_commit.proofs.Past.{core_past, core_knows}
 use Rattle.group_commit.proofs.Seen.{launched_all_seen}
-use Rattle.group_commit.proofs.Settling.{holds_still}
+use Rattle.group_commit.proofs.Settling.{holds_still, loaded_holds, still_holds}
 use Rattle.group_commit.proofs.Since.{known_all, core_all}
 use Rattle.group_commit.proofs.desk.Desk.launch_checkpoint.Goals as goal
 use Rattle.group_commit.proofs.desk.Desk.launch_checkpoint.Goals.{After-between-inputs}
@@ -84,7 +85,7 @@ invariant_of-self c =
       knows = core_all m d.base (area_in d) d.inputs.all.list d.durable d.flying c.self.inside.inputs.count c.summary_len-length.result d.pending d.core c.summarise.new.core all spells i.knows c.in-Ok-summarise.ensures.rebased;
       state = known_all m d.base (area_in d) d.inputs.all.list d.durable d.flying c.self.inside.inputs.count c.summary_len-length.result d.pending none all spells (may a).few (subst (λ k. k ≤ d.capacity) (sym spells) (may a).fits) i.state;
       holds = subst (λ k. Holds d.node c.summarise.new.outbox s (drop d.durable d.inputs.all.list) k) (ap length (waits a) ∙ count)
-          (c.in-Ok-summarise.ensures.holds d.node s (drop d.durable d.inputs.all.list) (holds_still d.node _ d.outbox s _ i.holds));
+          (loaded_holds d.node _ d.outbox c.summarise.new.outbox s (drop d.durable d.inputs.all.list) c.in-Ok-summarise.ensures.loaded (holds_still d.node _ d.outbox s _ i.holds));
       kept = kept_all m d.base (area_in d) d.inputs.all.list d.durable d.flying d.inputs.count c.summary_len-length.result d.pending c.in-Ok.known d.inputs c.stand_for.new.self all
           (c.in-Ok.ensures.value ∙ (λ k. (i.knows k).known)) (λ inside. subst (IsSound m.n) (sym c.in-Ok.ensures.value) (subst (λ (core : CoreView). IsNodeOf core.size core.me → IsSound core.size d.core.known) i.knows c.in-Ok.ensures.sound inside))
           c.stand_for.ensures.gone c.stand_for.ensures.known c.stand_for.ensures.marked c.stand_for.ensures.mark i.kept;
@@ -109,3 +110,22 @@ returns-in-Ok-summarise-clause-lifted c =
     subst (λ (v : DeskKept). (past : List Input) → IsPast v.view.member v.opening past
     → seen past (next_by a c.stand_for.new.self.all.list c.self.inside.inputs.count c.summary_len-length.result) ≡ record (seen past v) { state = launching.launched_all v.view.member.node (seen past v).state }) c.self.view_is
     (λ past is. (λ k. seen past (next_by a (sym (list_is c.stand_for.new.self.all d.inputs.all c.stand_for.ensures.all) k) (all k) (spells k))) ∙ launched_all_seen past (shown_by a) is (core_past (member_in d) d.base past (state_in d) is i.state).knows)
+
+pub invariant_of-self-in-Err-summarise : goal.invariant_of-self-in-Err-summarise
+invariant_of-self-in-Err-summarise c =
+    let d = c.self.inside in
+    let i = c.self.invariant in
+    let a = (goal.at.invariant_of-self-in-Err-summarise c).After-between-inputs in
+    let s = after d.node d.base (take d.durable d.inputs.all.list) in
+    let waits = drop d.durable d.inputs.all.list in
+    let same = idle_flies (state_in d) (may a).idle in
+    let none : d.flying - d.durable ≡ 0 = omega (arith, same) in
+    record {
+      sound = i.sound;
+      knows = c.in-Err.ensures.same ∙ i.knows;
+      state = i.state;
+      holds = subst (λ k. Holds d.node c.summarise.new.outbox s waits k) (sym none) (still_holds d.node d.outbox c.summarise.new.outbox s waits c.in-Err.ensures.err (holds_still d.node _ d.outbox _ _ i.holds));
+      kept = i.kept;
+      given = i.given;
+      answers = i.answers;
+    }

@@ -26,6 +26,7 @@ use Rattle.group_commit.proofs.Past.{given_is}
 use Rattle.group_commit.proofs.Replies.{IsAnswerOf, answer_now, answers_longer, answers_next}
 use Rattle.group_commit.proofs.Seen.{lawful_known}
 use Rattle.group_commit.proofs.Since.{knows_front, known_more, core_more}
+use Rattle.group_commit.proofs.Settling.{holds_gained, holds_with}
 use Rattle.group_commit.proofs.desk.Desk.submit.Goals as goal
 use Rattle.group_commit.proofs.desk.Desk.submit.Goals.{After-take_back, After-accept}
 
@@ -63,7 +64,7 @@ invariant_of-self-then-is_err-2 c =
       sound = i.sound;
       knows = same.1 ∙ (i.knows ∙ ap (λ l. core_in m d.base (state_for d l)) (sym same.0));
       state = subst (λ l. IsKnownState m d.base (state_for d l)) (sym same.0) i.state;
-      holds = subst (λ (l : List Input). HoldsFor d.node c.accept.new.outbox d.base (take d.durable l) (drop d.durable l) (d.flying - d.durable)) (sym same.0) (on_err c.accept.result failed c.accept.ensures.same d.node _ _ _ i.holds);
+      holds = subst (λ (l : List Input). HoldsFor d.node c.accept.new.outbox d.base (take d.durable l) (drop d.durable l) (d.flying - d.durable)) (sym same.0) (holds_with d.node _ d.outbox c.accept.new.outbox _ _ (on_err c.accept.result failed c.accept.ensures.same) i.holds);
       kept = (
           let all = subst (λ l. IsKept m d.base (state_for d l) c.accept.new.inputs) (append-nil d.inputs.all.list) (kept_more m d.base (state_in d) [] d.inputs c.accept.new.inputs i.state c.accept.ensures.marks i.kept) in
           subst (λ l. IsKept m d.base (state_for d l) c.accept.new.inputs) (sym same.0) all);
@@ -113,7 +114,7 @@ holds_more c accepted =
     let waits = drop d.durable d.inputs.all.list in
     let more = cons_option c.judge.result.1 [] in
     let within : d.durable ≤ length d.inputs.all.list = (let a = i.state.counts.durable in let b = i.state.counts.flying in omega arith) in
-    let holds = on_ok c.accept.result accepted c.accept.ensures.holds s waits (d.flying - d.durable) (subst (λ n. d.core.known ≡ after n s waits) (sym me) (knows_front (member_in d) d.base (state_in d) d.core d.durable i.knows)) in
+    let holds = holds_gained d.core.me (d.flying - d.durable) d.outbox c.accept.new.outbox s waits d.core.known c.judge.result.1 (subst (λ n. d.core.known ≡ after n s waits) (sym me) (knows_front (member_in d) d.base (state_in d) d.core d.durable i.knows)) (on_ok c.accept.result accepted c.accept.ensures.waits) in
     subst (λ (l : List Input). HoldsFor d.node c.accept.new.outbox d.base (take d.durable l) (drop d.durable l) (d.flying - d.durable)) (sym (on_ok c.accept.result accepted c.accept.ensures.inputs))
     (waits_more d.node (d.flying - d.durable) c.accept.new.outbox d.base d.inputs.all.list more d.durable within
     (subst (λ n. Holds n d.outbox s waits (d.flying - d.durable) → Holds n c.accept.new.outbox s (waits ++ more) (d.flying - d.durable)) me holds i.holds))
