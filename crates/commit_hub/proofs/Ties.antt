@@ -1,29 +1,27 @@
 -- What a tie knows of its hub's desk: what flies there, and whether it has failed or is done.
-use Rattle.std.proofs.Common.{◌≡◌, inl, inr, ℕ, ◌+◌, ◌-◌, ◌≤◌, Bool, true, false, cond, not, ◌&&◌, ◌||◌, List, length, take, drop, refl, sym, ap, ◌∙◌, subst, arith, length-take, length-drop, Option, Some, None, Result, Ok, Err, IfNone, IfOk, OnOk}
+use Rattle.std.proofs.Common.{◌≡◌, inl, inr, ℕ, ◌+◌, ◌-◌, Bool, true, false, cond, not, ◌&&◌, ◌||◌, length, drop, refl, sym, ap, ◌∙◌, subst, arith, length-take, length-drop, Option, Some, None, Result, Ok, Err, IfNone, IfOk, OnOk}
 use Rattle.std.specs.Option.{option_map}
 use Rattle.std.specs.Prelude.{MatchOption, OnErr, is_none, is_some, nat_eq, nat_lt}
 use Rattle.std.proofs.lemmas.Bool.{true≢false, false≢true, lt-ltb, le-ltb, eq-eqb, ne_eqb, cases_lt}
 use Rattle.ring_records.specs.declared.base.Base.{Base}
-use Rattle.ring_records.specs.declared.refusal.Refusal.{Refusal}
 use Rattle.ring_records.specs.declared.refusal.Refusal.TheVariants as refused
 use Rattle.ring_records.specs.declared.summary.Summary.{Summary}
 use Rattle.ring_records.specs.Admission.{newest}
 use Rattle.ring_records.specs.Snapshot.{snapshot_len}
 use Rattle.ring_records.specs.States.{NodeState, is_idle, flying_in}
 use Rattle.ring_records.specs.Lawful.{IsNodeState}
-use Rattle.ring_records.specs.States as states
 use Rattle.ring_records.proofs.Lists.{none≢some}
 use Rattle.ring_records.proofs.States.{idle-none}
 use Rattle.gated_journal.specs.Batch.{Numbered, numbered_with}
 use Rattle.gated_journal.specs.declared.work.Work.{Work}
 use Rattle.group_commit.specs.Desk.{DeskKept, DeskView, known_all, landed, launched}
 use Rattle.group_commit.specs.DeskCalls.{IsFlying}
-use Rattle.group_commit.specs.Launching.{launch_objection, launched_all, needs_checkpoint, is_checkpoint_next, launched_next, IsNoWork, IsUnlaunched, IsWorkOf}
+use Rattle.group_commit.specs.Launching.{launch_objection, launched_all, needs_checkpoint, is_checkpoint_next, launched_next, IsNoWork, IsWorkOf}
 use Rattle.group_commit.specs.Next.{is_to_make_room}
 use Rattle.group_commit.proofs.Checkpoints.{idle_free}
 use Rattle.group_commit.proofs.Costs.{launched_counts}
 use Rattle.commit_hub.specs.Desks.{flying_part, has_waiting, is_done, is_resting}
-use Rattle.commit_hub.specs.Over.{flies, launch_refusal, is_over}
+use Rattle.commit_hub.specs.Over.{flies, launch_refusal}
 use Rattle.gated_journal.specs.Works.{flown_by, summary_by}
 
 -- ---- what flies

@@ -1,12 +1,11 @@
 -- What a hub launches next, and what lands.
-use Rattle.std.proofs.Common.{◌≡◌, ℕ, ◌+◌, ◌≤◌, Bool, true, false, List, [], ◌∷◌, ◌++◌, length, refl, sym, ap, ◌∙◌, subst, arith, length-take, Option, Some, None, if◌then◌else◌, Result, Ok, Err, IfNone, IfOk, IfSome, OnOk}
+use Rattle.std.proofs.Common.{◌≡◌, ℕ, ◌+◌, ◌≤◌, Bool, true, false, List, ◌++◌, length, refl, sym, ap, ◌∙◌, subst, arith, length-take, Option, Some, None, if◌then◌else◌, Result, Ok, Err, IfNone, IfOk, IfSome, OnOk}
 use Rattle.std.specs.Option.{option_map}
 use Rattle.std.specs.Prelude.{unwrap_or, MatchOption, OnErr}
 use Rattle.std.proofs.lemmas.Option.{same_Some}
 use Rattle.ring_records.specs.declared.base.Base.{Base}
 use Rattle.ring_records.specs.declared.input.Input.{Input}
 use Rattle.ring_records.specs.declared.summary.Summary.{Summary}
-use Rattle.ring_records.specs.Known.{after}
 use Rattle.ring_records.specs.Member.{Member}
 use Rattle.ring_records.specs.States.{NodeState, launched_base, durable_in, flown_in, flying_in}
 use Rattle.ring_records.specs.Lawful.{IsNodeState}
@@ -17,7 +16,6 @@ use Rattle.group_commit.specs.Desk.{DeskKept, landed, launched}
 use Rattle.group_commit.specs.Launching.{next_area, launch_objection, launched_all, is_checkpoint_next, launched_next, IsFitting, IsNoWork, IsWorkOf}
 use Rattle.group_commit.specs.Next.{IsNext, Durable, durable_part, with_area, with_batch}
 use Rattle.group_commit.proofs.Checkpoints.{idle_free, none_pending}
-use Rattle.group_commit.proofs.KeptInputs.{after-inputs}
 use Rattle.group_commit.proofs.Costs.{base_stays, flown, launched_counts}
 use Rattle.commit_hub.specs.Works.{IsNextArea}
 

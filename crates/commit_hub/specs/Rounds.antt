@@ -3,8 +3,6 @@ use Rattle.std.specs.Prelude.{ℕ, ◌≡◌, ◌+◌, ◌≤◌, true, false, l
 use Rattle.std.specs.declared.sync.ledger.Ledger as ledger
 use Rattle.ring_records.specs.declared.refusal.Refusal.{Refusal}
 use Rattle.ring_records.specs.declared.refusal.Refusal.TheVariants as refused
-use Rattle.ring_records.specs.declared.summary.Summary.{Summary}
-use Rattle.ring_records.specs.Member.{Member}
 use Rattle.gated_journal.specs.declared.flown.Receipt.{Receipt}
 use Rattle.gated_journal.specs.declared.flown.Spoiled.{Spoiled}
 use Rattle.gated_journal.specs.declared.work.Work.{Work}

@@ -1,8 +1,6 @@
 -- Which Stands and messages a node takes, by what is shown of its room.
 use Rattle.std.specs.Prelude.{◌+◌, ◌*◌, ◌&&◌, not, nat_le, nat_lt, Bool}
 use Rattle.ring_records.specs.declared.limits.TheConstants.{INPUT_BYTES}
-use Rattle.ring_records.specs.Admission.{used}
-use Rattle.group_commit.specs.Desk.{frees_room, is_due}
 use Rattle.commit_hub.specs.declared.look.Look.{Look}
 
 -- A node takes a Stand that leaves the reserve, an eighth of its capacity, free behind a checkpoint of all that it accepted: the Stand

@@ -21,7 +21,7 @@ use Rattle.ring_records.specs.States as states
 use Rattle.ring_records.specs.Launching as launching
 use Rattle.ring_records.specs.Snapshot.{snapshot_len}
 use Rattle.ring_records.specs.States.{NodeState, launched_base, durable_in, flown_in}
-use Rattle.ring_records.specs.Serving.{gained_by, shown_in}
+use Rattle.ring_records.specs.Serving.{shown_in}
 use Rattle.ring_records.specs.Summary.{summary}
 use Rattle.ring_records.proofs.Growth.{EachAfter-take}
 use Rattle.ring_records.proofs.RetireStep.{after-known}

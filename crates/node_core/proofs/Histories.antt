@@ -1,5 +1,5 @@
 -- What a core does whose history is told: its clauses over histories, from what it knows.
-use Rattle.std.proofs.Common.{ℕ, ◌≡◌, ◌+◌, ◌≤◌, Bool, true, false, cond, ◌&&◌, ◌||◌, eqb, not, List, [], ◌∷◌, ◌++◌, length, drop, Ok, Err, Option, Some, None, refl, sym, ap, subst, ◌∙◌, arith}
+use Rattle.std.proofs.Common.{ℕ, ◌≡◌, ◌≤◌, Bool, true, false, cond, ◌&&◌, ◌||◌, eqb, not, List, [], ◌∷◌, ◌++◌, length, drop, Ok, Err, Option, Some, None, refl, sym, ap, subst, ◌∙◌, arith}
 use Rattle.std.specs.Prelude.{is_none}
 use Rattle.std.specs.List.{list_any}
 use Rattle.std.specs.Option.{option_map}
@@ -38,7 +38,7 @@ use Rattle.ring_records.proofs.Admission.{or_else-none, objection-allowed}
 use Rattle.ring_records.proofs.Counts.{used-more, shown-decided}
 use Rattle.ring_records.proofs.History.{if_live-none, if_live-same, leader-push, or-false}
 use Rattle.ring_records.proofs.Keys.{is_key-same}
-use Rattle.ring_records.proofs.Known.{leader-known, sends-known, objects-known, objects-of, live-known}
+use Rattle.ring_records.proofs.Known.{leader-known, sends-known, objects-known, live-known}
 use Rattle.ring_records.proofs.Summaries.{floor-known}
 use Rattle.ring_records.proofs.Latest.{latest_is, latest_same, one_latest}
 use Rattle.node_core.specs.Brought.{told_by, brought, who_after, who_by}

@@ -1,5 +1,5 @@
 -- What keeps a node and its journal together.
-use Rattle.std.proofs.Common.{◌≡◌, ◌⊎◌, ◌-◌, ◌≤◌, ℕ, Bool, true, false, List, [], ◌++◌, inl, inr, ⊎_elim, length, take, refl, sym, ◌∙◌, ap, subst, arith, length-append}
+use Rattle.std.proofs.Common.{◌≡◌, ◌-◌, ◌≤◌, ℕ, Bool, false, List, [], ◌++◌, inl, inr, ⊎_elim, length, take, refl, sym, ◌∙◌, ap, subst, arith, length-append}
 use Rattle.std.specs.List.{cons_option}
 use Rattle.std.proofs.lemmas.List.{take_all, take-append-le}
 use Rattle.disk_model.specs.declared.device.Device.{Ghosts}
@@ -21,7 +21,7 @@ use Rattle.gated_journal.specs.Journal.{device_of, member_of, len_of, room_of, l
 use Rattle.gated_journal.specs.Reading.{Reading, fresh_area}
 use Rattle.gated_journal.specs.Opened.{count_in, used_in}
 use Rattle.node_core.specs.Core.{IsNodeOf}
-use Rattle.group_commit.specs.Desk.{DeskKept, DeskView, core_of, launched, new_desk, seen, IsSubmitted}
+use Rattle.group_commit.specs.Desk.{DeskKept, DeskView, core_of, new_desk, seen, IsSubmitted}
 use Rattle.group_commit.specs.Opening.{IsKnownLawful}
 use Rattle.group_commit.specs.Past.{IsPast}
 use Rattle.group_commit.specs.Ticket.{TicketView}

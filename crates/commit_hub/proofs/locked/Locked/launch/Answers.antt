@@ -1,4 +1,4 @@
-use Rattle.std.proofs.Common.{rules, true, ◌≡◌, ◌⊎◌, ◌+◌, ◌≤◌, [], length, take, append-nil, false, sym, ap, ◌∙◌, subst, arith, Option, Some, None, IfErr, IfNone, IfOk, OnOk}
+use Rattle.std.proofs.Common.{true, ◌≡◌, ◌⊎◌, ◌+◌, ◌≤◌, [], length, take, append-nil, false, sym, ap, ◌∙◌, subst, arith, Option, Some, None, IfErr, IfNone, IfOk, OnOk}
 use Rattle.std.specs.Prelude.{MatchOption}
 use Rattle.commit_hub.specs.Holders.{known_by}
 use Rattle.group_commit.specs.Next.{Durable, durable_part}
