@@ -101,13 +101,6 @@ holds_gained me flying old new s l known None knows is holds =
 pub ends_with : {A : Type 0} (xs ys : List A) (a b : A) → xs ≡ ys ++ a ∷ [] → a ≡ b → xs ≡ ys ++ b ∷ []
 ends_with xs ys a b is same = is ∙ ap (λ c. ys ++ c ∷ []) same
 
--- the memory for what flies is there, or nothing flies
-pub holds_loaded : (me flying count : ℕ) (old new : Outbox) (s : Summary) (l : List Input) → Holds me old s l flying → new.waiting ≡ old.waiting
-    → Keeps new.released s → HasRoom new.released count
-    → IsBlank new.landing → (0 < count → IsReady new.landing count) → (0 < count → new.landing.count ≡ count) → Holds me new s l count
-holds_loaded me flying count old new s l holds same keeps room blank ready counts =
-    record { released = keeps; waiting = (λ i. (same i).items) ∙ holds.waiting; room = room; blank = blank; ready = ready; count = counts }
-
 pub idle : {A : Type 0} → 0 < 0 → A
 idle less = absurd (omega (arith, less))
 
