@@ -99,7 +99,7 @@ def functions(text: str) -> list[Function]:
         if not FUNCTION.match(line):
             continue
         indent = len(line) - len(line.lstrip())
-        ends = (it for it in range(at + 1, len(lines)) if lines[it].startswith(" " * indent + "}"))
+        ends = (it for it in range(at + 1, len(lines)) if lines[it].startswith((" " * indent + "}", " " * indent + "{}")))
         end = at if line.rstrip().endswith("{}") or line.rstrip().endswith(";") else next(ends, at)
         begin = at if line.rstrip().endswith("{") else next((it for it in range(at, end) if lines[it] == " " * indent + "{"), None)
         if begin is None:
