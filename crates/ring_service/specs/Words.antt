@@ -1,5 +1,5 @@
 -- The words of ringd.
-use Rattle.std.specs.Prelude.{ℕ, Bool, true, false, ◌≡◌, ◌≤◌, List, [], ◌∷◌, Option, Some, None, Ok, IsSomeAnd, pos, unwrap_or, codes}
+use Rattle.std.specs.Prelude.{ℕ, Bool, true, false, ◌≡◌, ◌<◌, ◌≤◌, List, [], ◌∷◌, Option, Some, None, Ok, IfSome, IsSomeAnd, pos, unwrap_or, codes}
 use Rattle.std.specs.Str.Parse.{IsNumeral, digits_value, without_leading_plus}
 use Rattle.ring_records.specs.declared.limits.TheConstants.{DOORS}
 use Rattle.hex.specs.Hex.{decode_of}
@@ -103,24 +103,37 @@ abbrev pub IsForm : Option (List ℕ) → Option LogForm → Type 0
 IsForm None form = form ≡ None
 IsForm (Some text) form = IsSomeAnd form (λ told. text ≡ form_name told)
 
+-- what is said by these matches
+pub record AreSaidBy (matches : ArgMatches) (told : Words) : Type 0 where
+  pub settings : told.settings.now ≡ unwrap_or (first_value (found_of matches) (codes "settings")) (codes "-")
+  pub serve : IsMatched 1 1000 (one_text (found_of matches) (codes "serve")) told.serve
+  pub always : Flag (one_text (found_of matches) (codes "always")) told.always
+  pub make : Flag (one_text (found_of matches) (codes "make")) told.make
+  pub check : Flag (one_text (found_of matches) (codes "check")) told.check
+  pub existing : Flag (one_text (found_of matches) (codes "existing")) told.existing
+  pub fail_stop : Flag (one_text (found_of matches) (codes "fail-stop")) told.fail_stop
+  pub doors : IsSaid 1 DOORS 1 (one_text (found_of matches) (codes "doors")) told.doors
+  pub idle : IsSaid 0 86400 0 (one_text (found_of matches) (codes "idle")) told.idle
+  pub status : IsMatched 1 65535 (one_text (found_of matches) (codes "status")) told.status
+  pub watchers : IsSaid 0 64 16 (one_text (found_of matches) (codes "watchers")) told.watchers
+  pub listen : IsHost (unwrap_or (first_value (found_of matches) (codes "listen")) (codes "127.0.0.1")) told.listen
+  pub far : IsSaid 0 999999999 1000000 (one_text (found_of matches) (codes "leap")) told.leap
+  pub ring : IsRing (first_value (found_of matches) (codes "ring")) told.ring
+  pub log : IsForm (first_value (found_of matches) (codes "log")) told.log
+  pub verbose : Flag (one_text (found_of matches) (codes "verbose")) told.verbose
+  pub leaders : Flag (one_text (found_of matches) (codes "leaders")) told.leaders
+
 -- what clap matches to the words
 pub record AreTold (words : List (List ℕ)) (told : Words) : Type 0 where
   pub matches : ArgMatches
   pub matched : HasMatchesOf ringd_app words matches
-  pub path : told.settings.now ≡ unwrap_or (first_value (found_of matches) (codes "settings")) (codes "-")
-  pub sessions : IsMatched 1 1000 (one_text (found_of matches) (codes "serve")) told.serve
-  pub endless : Flag (one_text (found_of matches) (codes "always")) told.always
-  pub makes : Flag (one_text (found_of matches) (codes "make")) told.make
-  pub checks : Flag (one_text (found_of matches) (codes "check")) told.check
-  pub existing : Flag (one_text (found_of matches) (codes "existing")) told.existing
-  pub fail_stop : Flag (one_text (found_of matches) (codes "fail-stop")) told.fail_stop
-  pub side_by_side : IsSaid 1 DOORS 1 (one_text (found_of matches) (codes "doors")) told.doors
-  pub silence : IsSaid 0 86400 0 (one_text (found_of matches) (codes "idle")) told.idle
-  pub told_at : IsMatched 1 65535 (one_text (found_of matches) (codes "status")) told.status
-  pub waits : IsSaid 0 64 16 (one_text (found_of matches) (codes "watchers")) told.watchers
-  pub listens_at : IsHost (unwrap_or (first_value (found_of matches) (codes "listen")) (codes "127.0.0.1")) told.listen
-  pub leaps : IsSaid 0 999999999 1000000 (one_text (found_of matches) (codes "leap")) told.leap
-  pub is_of : IsRing (first_value (found_of matches) (codes "ring")) told.ring
-  pub tells_as : IsForm (first_value (found_of matches) (codes "log")) told.log
-  pub tells_more : Flag (one_text (found_of matches) (codes "verbose")) told.verbose
-  pub leads : Flag (one_text (found_of matches) (codes "leaders")) told.leaders
+  pub said : AreSaidBy matches told
+
+-- Each number is of its range, beside a port for who tells of the ring a door is left, and leaders are told by a look alone.
+pub record AreAllowed (told : Words) : Type 0 where
+  pub range : IfSome told.serve (IsIn 1 1000)
+  pub doors : IsIn 1 DOORS told.doors
+  pub port : IfSome told.status (λ port. (1 ≤ port) × (told.doors < DOORS))
+  pub places : IsIn 0 64 told.watchers
+  pub leap : IsIn 0 999999999 told.leap
+  pub beside : told.leaders ≡ true → told.check ≡ true

@@ -1,8 +1,8 @@
 //! The words of `ringd`.
-ghost use Rattle.std.specs.Prelude.{◌≡◌, ◌<◌, ◌≤◌, ◌||◌, true, nat_lt, is_none, Option, Some, None, IfOk, IfSome, map, codes, unwrap_or};
+ghost use Rattle.std.specs.Prelude.{◌≡◌, ◌||◌, nat_lt, is_none, Option, Some, None, IfOk, IfSome, map, codes, unwrap_or};
 ghost use Rattle.ring_records.specs.declared.limits.TheConstants.{DOORS};
 ghost use Rattle.clap.specs.Words.{first_value, found_of, one_text};
-ghost use Rattle.ring_service.specs.Words.{AreTold, Flag, IsForm, IsIn, IsMatched, IsRing, IsSaid};
+ghost use Rattle.ring_service.specs.Words.{AreAllowed, AreSaidBy, AreTold, IsForm, IsIn, IsMatched, IsRing, IsSaid};
 ghost use Rattle.ring_service.specs.Hosts.{IsHost};
 
 mod app;
@@ -67,12 +67,8 @@ pub struct Words<'a> {
 /// [--listen HOST] [--leap N] [--ring ID] [--log FORM] [--verbose]`.
 /// Refused with what is to be printed, and the status.
 pub fn read_words<'a>(alloc: Global, words: &'a [&'a str]) -> Result<Words<'a>, Error>
-    ensures told { IfOk result (λ w. AreTold (map (λ word. word.now) words.now) w) }
-    ensures range { IfOk result (λ w. IfSome w.serve (IsIn 1 1000)) }
-    ensures doors { IfOk result (λ w. IsIn 1 DOORS w.doors) }
-    ensures port { IfOk result (λ w. IfSome w.status (λ port. (1 ≤ port) × (w.doors < DOORS))) }
-    ensures places { IfOk result (λ w. IsIn 0 64 w.watchers) }
-    ensures leap { IfOk result (λ w. IsIn 0 999999999 w.leap) }
+    ensures told { IfOk result (AreTold (map (λ word. word.now) words.now)) }
+    ensures allowed { IfOk result AreAllowed }
 {
     let mut command = command(alloc)?;
     let matches = command.try_get_matches_from_mut(words)?;
@@ -210,29 +206,8 @@ fn have_place(doors: u32, status: Option<u16>) -> bool
 
 /// What is matched.
 fn words_of<'a>(matches: &ArgMatches<'a>) -> Result<Words<'a>, Objection>
-    ensures settings { IfOk result (λ w. w.settings.now ≡ unwrap_or (first_value (found_of matches.now) (codes "settings")) (codes "-")) }
-    ensures serve { IfOk result (λ w. IsMatched 1 1000 (one_text (found_of matches.now) (codes "serve")) w.serve) }
-    ensures always { IfOk result (λ w. Flag (one_text (found_of matches.now) (codes "always")) w.always) }
-    ensures make { IfOk result (λ w. Flag (one_text (found_of matches.now) (codes "make")) w.make) }
-    ensures check { IfOk result (λ w. Flag (one_text (found_of matches.now) (codes "check")) w.check) }
-    ensures existing { IfOk result (λ w. Flag (one_text (found_of matches.now) (codes "existing")) w.existing) }
-    ensures fail_stop { IfOk result (λ w. Flag (one_text (found_of matches.now) (codes "fail-stop")) w.fail_stop) }
-    ensures doors { IfOk result (λ w. IsSaid 1 DOORS 1 (one_text (found_of matches.now) (codes "doors")) w.doors) }
-    ensures idle { IfOk result (λ w. IsSaid 0 86400 0 (one_text (found_of matches.now) (codes "idle")) w.idle) }
-    ensures range { IfOk result (λ w. IfSome w.serve (IsIn 1 1000)) }
-    ensures side_by_side { IfOk result (λ w. IsIn 1 DOORS w.doors) }
-    ensures status { IfOk result (λ w. IsMatched 1 65535 (one_text (found_of matches.now) (codes "status")) w.status) }
-    ensures port { IfOk result (λ w. IfSome w.status (λ port. (1 ≤ port) × (w.doors < DOORS))) }
-    ensures watchers { IfOk result (λ w. IsSaid 0 64 16 (one_text (found_of matches.now) (codes "watchers")) w.watchers) }
-    ensures places { IfOk result (λ w. IsIn 0 64 w.watchers) }
-    ensures listen { IfOk result (λ w. IsHost (unwrap_or (first_value (found_of matches.now) (codes "listen")) (codes "127.0.0.1")) w.listen) }
-    ensures far { IfOk result (λ w. IsSaid 0 999999999 1000000 (one_text (found_of matches.now) (codes "leap")) w.leap) }
-    ensures leap { IfOk result (λ w. IsIn 0 999999999 w.leap) }
-    ensures ring { IfOk result (λ w. IsRing (first_value (found_of matches.now) (codes "ring")) w.ring) }
-    ensures log { IfOk result (λ w. IsForm (first_value (found_of matches.now) (codes "log")) w.log) }
-    ensures verbose { IfOk result (λ w. Flag (one_text (found_of matches.now) (codes "verbose")) w.verbose) }
-    ensures leaders { IfOk result (λ w. Flag (one_text (found_of matches.now) (codes "leaders")) w.leaders) }
-    ensures beside { IfOk result (λ w. w.leaders ≡ true → w.check ≡ true) }
+    ensures said { IfOk result (AreSaidBy matches.now) }
+    ensures allowed { IfOk result AreAllowed }
 {
     let settings = match matches.get_str("settings") {
         Some(path) => path,
