@@ -1,6 +1,7 @@
 pub mod Begun
 pub mod Entry
 pub mod Flushers
+pub mod Flushes
 pub mod Hosts
 pub mod Leaders
 pub mod Props
@@ -10,4 +11,5 @@ pub mod Rounds
 pub mod Series
 pub mod Services
 pub mod Settings
+pub mod Settled
 pub mod Words

@@ -1,19 +1,17 @@
 //! The flusher's end of a hub.
-ghost use Rattle.std.specs.Prelude.{◌≡◌, ◌+◌, ◌-◌, ◌<◌, ◌≤◌, ◌⊎◌, ◌++◌, [], true, false, None, is_err, is_some, length, IfOk, IfErr, IfSome, IfNone, IsOk, IsErrOf, OnErr, OnOk};
+ghost use Rattle.std.specs.Prelude.{◌≡◌, ◌-◌, ◌<◌, ◌≤◌, [], true, false, None, length, IfOk, IfSome, IfNone};
 ghost use mathlib.Core.List.{IsPrefix};
-ghost use Rattle.disk_model.specs.Disk.{LeavesOnly, Reaches};
-ghost use Rattle.gated_journal.specs.Areas.{AllReadAs, ReadsAsOneOf};
-ghost use Rattle.gated_journal.specs.Batch.{landed, lost};
-ghost use Rattle.gated_journal.specs.Journal.{device_of, member_of, len_of, room_of, layout_of, epoch_of as journal_epoch, is_spoiled};
-ghost use Rattle.gated_journal.specs.Reading.{Reading, device_size};
-ghost use Rattle.gated_journal.specs.Unread.{IsFault};
-ghost use Rattle.gated_journal.specs.Works.{reading_after, flown_by, summary_by};
-ghost use Rattle.decision_board.specs.Boards.{published, pending, refusals, in_rounds, LackedMemory};
+ghost use Rattle.gated_journal.specs.Areas.{AllReadAs};
+ghost use Rattle.gated_journal.specs.Batch.{landed};
+ghost use Rattle.gated_journal.specs.Journal.{member_of, len_of, room_of, layout_of, epoch_of as journal_epoch, is_spoiled};
+ghost use Rattle.gated_journal.specs.Reading.{Reading};
+ghost use Rattle.gated_journal.specs.Works.{flown_by};
+ghost use Rattle.decision_board.specs.Boards.{published, pending, in_rounds};
 ghost use Rattle.commit_hub.specs.Holders.{begun_by, known_by, objection_to, view_by};
-ghost use Rattle.commit_hub.specs.Told.{IsBrought};
 ghost use Rattle.group_commit.specs.Next.{IsNext};
 ghost use Rattle.node_core.specs.Core.{IsNodeOf};
-ghost use Rattle.ring_service.specs.Rounds.{IsRound, IsStopped, IsIdle, HasKnown, known_behind};
+ghost use Rattle.ring_service.specs.Rounds.{IsRound, IsStopped, HasKnown};
+ghost use Rattle.ring_service.specs.Settled.{IsSettled};
 ghost use Rattle.ring_service.specs.Props.{HasKnown-prop};
 
 use crate::gate::Gate;
@@ -46,6 +44,7 @@ pub struct Flusher<V: Device, J: Naming, A: NodeLedger> {
 
 impl<V: Device, J: Naming, A: NodeLedger> Flusher<V, J, A> {
     ghost use Rattle.ring_service.specs.Flushers.{journal_of, device_in, known_to, board_of, owed_of, told_to, is_published, is_done, has_ended};
+    ghost use Rattle.ring_service.specs.Flushes.{EndsOnFault, IsUnflushed, Publishes};
 
     /// A flusher that owes nothing. The journal is that of the node of the tie's hub, is not spoiled, and has what the
     /// tie knows. By the tie nothing flies, and the hub has not failed.
@@ -92,28 +91,11 @@ impl<V: Device, J: Naming, A: NodeLedger> Flusher<V, J, A> {
     ) -> Result<Option<Landed>, Refusal>
         ensures round { IfOk result (λ some. IfSome some (λ landed. IsRound V.Device A.member A.opening (device_in self.old) (device_in self.new)
             (known_to self.old) (known_to self.new) landed)) }
-        ensures told { IfOk result (λ some. IfSome some (λ landed. told_to self.new ≡ told_to self.old ++ landed.notices.items)) }
-        ensures published { IsPrefix (published (board_of self.old)) (published (board_of self.new)) }
-        ensures pending { is_published self.new ≡ true → pending (board_of self.new) ≡ [] }
-        ensures all { IfOk result (λ some. IfSome some (λ _. LackedMemory (board_of self.old) (board_of self.new)
-            ⊎ ((is_published self.new ≡ true) × (pending (board_of self.new) ≡ []) × (owed_of self.new ≡ [])))) }
-        ensures refusals { refusals (board_of self.old) ≤ refusals (board_of self.new) }
         ensures none { IfOk result (λ some. IfNone some ((journal_of self.new ≡ journal_of self.old) × (known_to self.new ≡ known_to self.old))) }
         ensures done { IfOk result (λ some. IfNone some (is_done self.new ≡ true)) }
-        ensures kept { IfOk result (λ some. IfNone some (told_to self.new ≡ told_to self.old)) }
-
-        // Refused, no notice is lost.
-        ensures refusal { IfErr result (λ why. IsIdle why ⊎ IsFault (V.count (device_in self.old)) (V.count (device_in self.new)) why) }
-        ensures idle { IfErr result (λ why. IsIdle why → (journal_of self.new ≡ journal_of self.old) × (known_to self.new ≡ known_to self.old)) }
-        ensures spoiled { IfErr result (λ why. IsFault (V.count (device_in self.old)) (V.count (device_in self.new)) why → is_spoiled (journal_of self.new) ≡ true) }
-        ensures same { OnErr result (told_to self.new ≡ told_to self.old) }
-        ensures in_reach { Reaches (V.reach (device_in self.old)) (device_size A.member.capacity) → IfErr result IsIdle }
-
-        // It ends where the device failed, and answers 9 then, and only then.
-        ensures ends { IfErr result (λ why. IsIdle why ⊎ (has_ended self.new ≡ true)) }
-        ensures goes_on { OnOk result (has_ended self.new ≡ false) }
-        ensures ended { has_ended self.old ≡ true → IsErrOf result Refusal.Failed }
-        ensures failed { IfErr result (λ why. why ≡ Refusal.Failed → has_ended self.old ≡ true) }
+        ensures publishes { Publishes self.old self.new result }
+        ensures refused { IsUnflushed self.old self.new result }
+        ensures ends { EndsOnFault self.old self.new result }
 
         // A stop at any moment leaves what the journal read as, or what it reads as behind the round.
         ensures any_moment { has_ended self.old ≡ false → (r : Reading) → AllReadAs A.member (V.disk (device_in self.old)) r
@@ -255,23 +237,7 @@ fn settle<V: Device, A: NodeLedger, R: Wait>(
     requires works { (view_by tie.old).failed ≡ false }
     requires based { (known_by tie.old).base.inputs ≤ length (known_by tie.old).inputs }
     requires known { HasKnown A.member A.opening (known_by tie.old) (len_of journal.old) (room_of journal.old) (layout_of journal.old) (journal_epoch journal.old) }
-    ensures count { IfOk result (λ landed. landed.count ≡ length (flown_by work).inputs) }
-    ensures kind { IfOk result (λ landed. landed.is_checkpoint ≡ is_some (summary_by work)) }
-    ensures brought { IfOk result (λ landed. IsBrought A.member A.opening (known_by tie.old).inputs (flown_by work).inputs landed) }
-    ensures again { IfOk result (λ landed. landed.again.items ≡ landed.notices.items) }
-    ensures durable { OnOk result ((r : Reading) → AllReadAs A.member (V.disk (device_of journal.old)) r
-        → AllReadAs A.member (V.disk (device_of journal.new)) (reading_after (journal_epoch journal.old) (summary_by work) (flown_by work).inputs r)) }
-    ensures ready { OnOk result (is_spoiled journal.new ≡ false) }
-    ensures member { member_of journal.new ≡ A.member }
-    ensures next { OnOk result (known_by tie.new ≡ known_behind (summary_by work) (flown_by work).inputs (known_by tie.old)) }
-    ensures known { OnOk result (HasKnown A.member A.opening (known_by tie.new) (len_of journal.new) (room_of journal.new) (layout_of journal.new) (journal_epoch journal.new)) }
-    ensures free { OnOk result (objection_to tie.new ≡ None) }
-    ensures refusal { IfErr result (IsFault (V.count (device_of journal.old)) (V.count (device_of journal.new))) }
-    ensures spoiled { OnErr result (is_spoiled journal.new ≡ true) }
-    ensures in_reach { Reaches (V.reach (device_of journal.old)) (device_size A.member.capacity) → IsOk result }
-    ensures any_moment { (r : Reading) → AllReadAs (member_of journal.old) (V.disk (device_of journal.old)) r
-        → LeavesOnly V.clock V.left_since (device_of journal.old) (device_of journal.new)
-        (ReadsAsOneOf (member_of journal.old) r (reading_after (journal_epoch journal.old) (summary_by work) (flown_by work).inputs r)) }
+    ensures { IsSettled journal.old journal.new tie.old tie.new work result }
 {
     match journal.write(work) {
         Ok(receipt) => match hub.land(rt, tie, receipt) {

@@ -1,4 +1,4 @@
-use Rattle.std.proofs.Common.{◌≡◌, ℕ, inl, sym, ap, subst, arith, ◌∙◌}
+use Rattle.std.proofs.Common.{rules, ◌≡◌, ℕ, inl, sym, ap, subst, arith, ◌∙◌}
 use Rattle.ring_records.specs.Member.{Member}
 use Rattle.gated_journal.specs.Journal.{device_of, member_of, epoch_of}
 use Rattle.gated_journal.specs.Areas.{AllReadAs}
@@ -36,17 +36,25 @@ returns-in-Ok-None-clause-any_moment g c =
 
 -- a growth was refused
 
-pub returns-in-Err-clause-refusal : goal.returns-in-Err-clause-refusal
-returns-in-Err-clause-refusal g c = inl (inl (short _ _ (c.args.self.now.free c.if-self.false) c.in-Err.ensures.tied.cause))
-
-pub returns-in-Err-clause-in_reach : goal.returns-in-Err-clause-in_reach
-returns-in-Err-clause-in_reach g c = λ reaches. inl (short _ _ (c.args.self.now.free c.if-self.false) c.in-Err.ensures.tied.cause)
+pub returns-in-Err-clause-refused : goal.returns-in-Err-clause-refused
+returns-in-Err-clause-refused g c =
+    let lack = short _ _ (c.args.self.now.free c.if-self.false) c.in-Err.ensures.tied.cause in
+    record {
+      refusal = inl (inl lack);
+      idle = search rules;
+      spoiled = λ fault. let is = fault.is in absurd cc;
+      in_reach = λ reaches. inl lack;
+    }
 
 pub returns-in-Err-clause-ends : goal.returns-in-Err-clause-ends
-returns-in-Err-clause-ends g c = inl (inl (short _ _ (c.args.self.now.free c.if-self.false) c.in-Err.ensures.tied.cause))
-
-pub returns-in-Err-clause-failed : goal.returns-in-Err-clause-failed
-returns-in-Err-clause-failed g c = λ failed. let lack = short _ _ (c.args.self.now.free c.if-self.false) c.in-Err.ensures.tied.cause in absurd cc
+returns-in-Err-clause-ends g c =
+    let lack = short _ _ (c.args.self.now.free c.if-self.false) c.in-Err.ensures.tied.cause in
+    record {
+      ends = inl (inl lack);
+      goes_on = tt;
+      ended = λ ended. absurd cc;
+      failed = λ failed. absurd cc;
+    }
 
 -- its work flies, and the hub has not failed
 
