@@ -1,26 +1,22 @@
-ghost use Rattle.std.specs.Prelude.{◌≡◌, ◌+◌, ◌-◌, ◌⊎◌, ◌||◌, ◌≤◌, ℕ, Bool, List, length, not, true, false, None, Some, IfOk, IfErr, OnOk, OnErr};
-ghost use Rattle.disk_model.specs.Disk.{MayLeave, LeavesOnly, Reaches, synced};
+ghost use Rattle.std.specs.Prelude.{◌≡◌, ◌+◌, ◌-◌, ◌⊎◌, ◌||◌, ◌≤◌, ℕ, List, length, not, true, false, None, Some, IfOk, IfErr, OnOk, OnErr};
+ghost use Rattle.disk_model.specs.Disk.{MayLeave, Reaches};
 ghost use Rattle.ring_records.specs.declared.input.Input.{Input};
-ghost use Rattle.ring_records.specs.Admission.{newest, used};
+ghost use Rattle.ring_records.specs.Admission.{newest};
 ghost use Rattle.ring_records.specs.Member.{member};
-ghost use Rattle.ring_records.specs.Snapshot.{IsSound};
-ghost use Rattle.ring_records.specs.States.{NodeState, durable_in, left_by};
 ghost use Rattle.ring_records.specs.Lawful.{IsNodeState, IsLawfulState};
 ghost use Rattle.ring_records.specs.Summary.{empty};
-ghost use Rattle.gated_journal.specs.Areas.{ReadsAs, AllReadAs};
+ghost use Rattle.gated_journal.specs.Areas.{AllReadAs};
 ghost use Rattle.gated_journal.specs.Journal as journals;
 ghost use Rattle.gated_journal.specs.Reading.{device_size, fresh_area, is_header};
 ghost use Rattle.gated_journal.specs.Unread.{IsFault, IsUnread};
 ghost use Rattle.node_core.specs.Core.{IsNodeOf};
-ghost use Rattle.group_commit.specs.Desk.{new_desk, core_of, seen, objection, IsSubmitted};
+ghost use Rattle.group_commit.specs.Desk.{new_desk, seen, objection, IsSubmitted};
 ghost use Rattle.group_commit.specs.Ending.{is_over, IsRedeemed, IsForfeited};
-ghost use Rattle.group_commit.specs.Opening.{IsKnownLawful};
 ghost use Rattle.group_commit.specs.Past.{IsPast};
 ghost use Rattle.group_commit.specs.Since.{IsKnownDesk};
 ghost use Rattle.node_store.specs.Props.{Stands-prop};
-ghost use Rattle.node_store.specs.Recovery.{IsNotLawful, IsUnrecovered};
-ghost use Rattle.node_store.specs.Standing.{Stands};
-ghost use Rattle.node_store.specs.State.{Holds, IsLeft, IsOpenedAs, MayBeLeft, all_held, durable_held};
+ghost use Rattle.node_store.specs.Standing.{IsReady, Stands};
+ghost use Rattle.node_store.specs.State.{Holds, MayBeLeft, durable_held};
 
 use crate::node::rounds::settle;
 use disk_model::{Device, FuseDevice};
@@ -45,6 +41,7 @@ pub struct Node<D: Device> {
 impl<D: Device> Node<D> {
     ghost use Rattle.group_commit.specs.Ticket.{shown};
     ghost use Rattle.node_store.specs.Node.{desk_of, member_of, state_of, device_of};
+    ghost use Rattle.node_store.specs.Recovery.{IsNotLawful, IsOnlySynced, IsUnrecovered, StandsAgain, StandsForAll};
 
     /// A new node, which has accepted nothing, on a device that is formatted for it. Refused as 2 where `n` is not 2 to
     /// 16, `node` is above it, or the capacity is not 4,096 to 1,048,576 bytes, as 15, and as 8. What the device holds
@@ -98,45 +95,14 @@ impl<D: Device> Node<D> {
         run: u64,
     ) -> Result<Node<D>, (D, Refusal)>
         requires in_ring { node ≤ n }
-        ensures desk { IfOk result (λ made. desk_of made ≡ new_desk (member node n (member_of made).capacity) run (all_held (desk_of made))) }
-        ensures lawful { IfOk result (λ made. IsSound n (desk_of made).opening × IsKnownLawful (core_of (member_of made) (all_held (desk_of made))) (state_of made).inputs) }
-
-        // What it holds stood on the device at the start, and stands in every image that a stop may leave afterwards.
-        ensures reads { IfOk result (λ made. ReadsAs (member_of made) (D.disk device).image (all_held (desk_of made))) }
-        ensures durable { IfOk result (λ made. AllReadAs (member_of made) (D.disk (device_of made)) (all_held (desk_of made))) }
-
-        // A node that was stopped stands again for its durable inputs, or also for those that flew. It is refused only
-        // where the device fails or memory is not found, and then the device holds what it held.
-        ensures recovery { (capacity : ℕ) (s : NodeState) → IsLawfulState (member node n capacity) s → Holds (member node n capacity) (D.disk device) s
-            → IfOk result (λ made. (keep : Bool) × IsOpenedAs (member node n capacity) run (left_by keep s) (desk_of made)) }
-        ensures recovery_err { (capacity : ℕ) (s : NodeState) → IsLawfulState (member node n capacity) s → Holds (member node n capacity) (D.disk device) s
-            → IfErr result (λ e. ((e.1 ≡ Refusal.OutOfMemory) ⊎ IsFault (D.count device) (D.count e.0) e.1) × Holds (member node n capacity) (D.disk e.0) s) }
-
-        // The same of what is read alone, whatever a stop may leave: of a file that was just opened no more is known.
-        ensures image { (capacity : ℕ) (s : NodeState) → IsLeft (member node n capacity) s (D.disk device).image
-            → IfOk result (λ made. (keep : Bool) × IsOpenedAs (member node n capacity) run (left_by keep s) (desk_of made)) }
-        ensures image_err { (capacity : ℕ) (s : NodeState) → IsLeft (member node n capacity) s (D.disk device).image
-            → IfErr result (λ e. ((e.1 ≡ Refusal.OutOfMemory) ⊎ IsFault (D.count device) (D.count e.0) e.1) × ((D.disk e.0).image ≡ (D.disk device).image)) }
+        ensures stands { IfOk result (StandsForAll node n run device) }
+        ensures again { StandsAgain node n run device result }
 
         // A refusal has its cause. While the device works it is the image's, or want of memory.
         ensures refusal { IfErr result (λ e. IsUnrecovered node n (D.count device) (D.count e.0) (D.disk device).image e.1) }
         ensures works { Reaches (D.reach device) (length (D.disk device).image)
             → IfErr result (λ e. (e.1 ≡ Refusal.OutOfMemory) ⊎ (IsUnread node n (D.disk device).image e.1 ⊎ IsNotLawful node n (D.disk device).image e.1)) }
-
-        // No call failed where it is opened. A call that failed is told before all else.
-        ensures same { IfOk result (λ made. D.count (device_of made) ≡ D.count device) }
-        ensures first { IfErr result (λ e. IsFault (D.count device) (D.count e.0) e.1 ⊎ (D.count e.0 ≡ D.count device)) }
-
-        // The device is synced, and nothing else is done to it. What is told of an image is told of a synced one.
-        ensures disk { IfOk result (λ made. D.disk (device_of made) ≡ synced (D.disk device)) }
-        ensures disk_err { IfErr result (λ e. (D.disk e.0 ≡ D.disk device) ⊎ (D.disk e.0 ≡ synced (D.disk device))) }
-        ensures stable { IfErr result (λ e. IsFault (D.count device) (D.count e.0) e.1 ⊎ (D.disk e.0 ≡ synced (D.disk device))) }
-
-        // A stop at any moment leaves what it might have left at the start.
-        ensures any_moment { IfOk result (λ made. LeavesOnly D.clock D.left_since device (device_of made) (MayLeave (D.disk device))) }
-        ensures any_moment_err { IfErr result (λ e. LeavesOnly D.clock D.left_since device e.0 (MayLeave (D.disk device))) }
-        ensures reach { IfOk result (λ made. D.reach (device_of made) ≡ D.reach device) }
-        ensures reach_err { IfErr result (λ e. D.reach e.0 ≡ D.reach device) }
+        ensures device { IsOnlySynced D.Device device_of device result }
     {
         inside(node, n);
         match Journal::reopen(alloc, device, node, n) {
@@ -245,18 +211,12 @@ impl<D: Device> Node<D> {
         requires open { ((desk_of self).view.closed || (desk_of self).view.failed) ≡ false }
         requires spent { length (desk_of self).view.tickets ≡ 0 }
         ensures desk { result.0 ≡ desk_of self }
-        ensures idle { result.0.view.state.flying ≡ result.0.view.state.durable }
-        ensures none { result.0.view.state.checkpoint ≡ None }
-        ensures inside { IsNodeOf result.0.view.member.n result.0.view.member.node }
-        ensures counts { IsNodeState result.0.view.state }
-        ensures lawful { (past : List Input) → IsPast result.0.view.member result.0.opening past → IsLawfulState result.0.view.member (seen past result.0).state }
         ensures device { journals.device_of result.1 ≡ device_of self }
         ensures member { journals.member_of result.1 ≡ result.0.view.member }
-        ensures ready { journals.is_spoiled result.1 ≡ false }
-        ensures len { journals.len_of result.1 ≡ result.0.opening.inputs + result.0.view.state.durable }
-        ensures room { journals.room_of result.1 ≡ result.0.view.member.capacity - used result.0.view.state.base (durable_in result.0.view.state) }
-        ensures layout { journals.layout_of result.1 ≡ result.0.view.state.base.layout }
-        ensures epoch { journals.epoch_of result.1 ≡ result.0.view.state.base.epoch }
+        ensures inside { IsNodeOf result.0.view.member.n result.0.view.member.node }
+        ensures ready { IsReady result.0 (journals.is_spoiled result.1) (journals.len_of result.1) (journals.room_of result.1) (journals.layout_of result.1) (journals.epoch_of result.1) }
+        ensures counts { IsNodeState result.0.view.state }
+        ensures lawful { (past : List Input) → IsPast result.0.view.member result.0.opening past → IsLawfulState result.0.view.member (seen past result.0).state }
         ensures durable { AllReadAs result.0.view.member (D.disk (journals.device_of result.1)) (durable_held result.0) }
     {
         let Node {

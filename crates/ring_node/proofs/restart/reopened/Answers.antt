@@ -20,16 +20,16 @@ again c s holds =
     subst (λ (d : Disk). Holds (member c.args.me c.args.n c.args.capacity) d s) (sym same) holds
 
 pub returns-in-Ok-clause-desk : goal.returns-in-Ok-clause-desk
-returns-in-Ok-clause-desk c = λ s lawful holds. c.in-Ok.ensures.recovery c.args.capacity s lawful (again (goal.at.returns-in-Ok-clause-desk c).After-recover s holds)
+returns-in-Ok-clause-desk c = λ s lawful holds. c.in-Ok.ensures.again.recovery c.args.capacity s lawful (again (goal.at.returns-in-Ok-clause-desk c).After-recover s holds)
 
 pub returns-in-Ok-clause-reaches : goal.returns-in-Ok-clause-reaches
 returns-in-Ok-clause-reaches c =
-    let same : reach_of (nodes.device_of c.in-Ok.node) ≡ reach_of c.idle.result = c.in-Ok.ensures.reach in
+    let same : reach_of (nodes.device_of c.in-Ok.node) ≡ reach_of c.idle.result = c.in-Ok.ensures.device.reach in
     subst (λ (r : Reach). Reaches r (device_size c.args.capacity)) (sym same) (idle_reaches c.idle.result c.args.device (device_size c.args.capacity) c.idle.ensures.idle c.idle.ensures.inner c.requires.long)
 
 -- The device is reliable to the end of what it holds, so it is memory that was missing.
 pub memory_alone-requires : goal.memory_alone-requires
 memory_alone-requires c =
     let refused = c.in-Err.ensures in
-    let held = refused.recovery_err c.args.capacity c.requires.holds.0 c.requires.holds.1 (again (goal.at.memory_alone-requires c).After-recover c.requires.holds.0 c.requires.holds.2) in
+    let held = refused.again.recovery_err c.args.capacity c.requires.holds.0 c.requires.holds.1 (again (goal.at.memory_alone-requires c).After-recover c.requires.holds.0 c.requires.holds.2) in
     no_cause c.args.me c.args.n _ _ _ _ held.0 (refused.works (image_within c.idle.result c.idle.ensures.idle))
