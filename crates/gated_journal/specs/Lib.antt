@@ -6,6 +6,7 @@ pub mod Damage
 pub mod Feeding
 pub mod Found
 pub mod Frames
+pub mod Holding
 pub mod InUse
 pub mod Journal
 pub mod Listed

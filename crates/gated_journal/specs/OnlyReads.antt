@@ -1,5 +1,5 @@
 -- What a call does that only reads a device.
-use Rattle.std.specs.Prelude.{◌≡◌, ◌⊎◌, ℕ, ◌≤◌, length, Result, OnOk, IfErr}
+use Rattle.std.specs.Prelude.{◌≡◌, ◌⊎◌, ℕ, ◌≤◌, length, Result, OnOk, IfOk, IfErr}
 use Rattle.disk_model.specs.declared.device.Device.{Ghosts}
 use Rattle.disk_model.specs.Disk.{MayLeave, LeavesOnly, Reaches, synced}
 use Rattle.ring_records.specs.declared.refusal.Refusal.{Refusal}
@@ -36,6 +36,20 @@ pub record SyncsAndReads {D T : Type 0} (g : Ghosts D) (old new : D) (result : R
   pub first : IfErr result (λ refusal. IsFault (g.count old) (g.count new) refusal ⊎ (g.count new ≡ g.count old))
   pub stays : g.reach new ≡ g.reach old
   pub works : Reaches (g.reach old) (length (g.disk old).image) → IfErr result Cause
+
+-- The device is synced, and nothing else is done to it, in what was made over it or handed back; what is told of an image is
+-- told of a synced one. No call failed where it is made, and one that failed is told before all else. A stop at any moment
+-- leaves what it might have left at the start.
+pub record IsOnlySynced {D T : Type 0} (g : Ghosts D) (device_of : T → D) (old : D) (result : Result T (D × Refusal)) : Type 0 where
+  pub same : IfOk result (λ made. g.count (device_of made) ≡ g.count old)
+  pub first : IfErr result (λ e. IsFault (g.count old) (g.count e.0) e.1 ⊎ (g.count e.0 ≡ g.count old))
+  pub disk : IfOk result (λ made. g.disk (device_of made) ≡ synced (g.disk old))
+  pub disk_err : IfErr result (λ e. (g.disk e.0 ≡ g.disk old) ⊎ (g.disk e.0 ≡ synced (g.disk old)))
+  pub stable : IfErr result (λ e. IsFault (g.count old) (g.count e.0) e.1 ⊎ (g.disk e.0 ≡ synced (g.disk old)))
+  pub any_moment : IfOk result (λ made. LeavesOnly g.clock g.left_since old (device_of made) (MayLeave (g.disk old)))
+  pub any_moment_err : IfErr result (λ e. LeavesOnly g.clock g.left_since old e.0 (MayLeave (g.disk old)))
+  pub reach : IfOk result (λ made. g.reach (device_of made) ≡ g.reach old)
+  pub reach_err : IfErr result (λ e. g.reach e.0 ≡ g.reach old)
 
 -- nothing but a fault of the device
 abbrev pub NoCause : Refusal → Type 0

@@ -1,5 +1,5 @@
 ghost use Rattle.std.specs.Prelude.{◌≡◌, ◌+◌, ◌-◌, ◌*◌, ◌⊎◌, ◌<◌, ◌≤◌, ◌^◌, ℕ, List, true, false, length, min, is_err, Decides, IfOk, IfErr, OnOk, OnErr, IsOk};
-ghost use Rattle.disk_model.specs.Disk.{MayLeave, LeavesOnly, Reaches, synced};
+ghost use Rattle.disk_model.specs.Disk.{Reaches};
 ghost use Rattle.disk_model.specs.Calls.{HasCause};
 ghost use Rattle.ring_records.specs.declared.limits.TheConstants.{GREATEST_CAPACITY, LEAST_CAPACITY};
 ghost use Rattle.ring_records.specs.Admission.{costs_of, newest};
@@ -8,10 +8,11 @@ ghost use Rattle.ring_records.specs.Snapshot.{IsSound, snapshot_len};
 ghost use Rattle.ring_records.specs.Summary.{empty};
 ghost use Rattle.gated_journal.specs.Areas.{ReadsAs, AllReadAs, ReadsAsOneOf};
 ghost use Rattle.gated_journal.specs.Frames.{AreSuited};
+ghost use Rattle.gated_journal.specs.OnlyReads.{IsOnlySynced};
 ghost use Rattle.gated_journal.specs.Place.{IsInUse};
 ghost use Rattle.gated_journal.specs.Reading.{Reading, device_size, with_more, fresh_area, is_header};
 ghost use Rattle.gated_journal.specs.Opened.{reading_of_opening, count_in, used_in};
-ghost use Rattle.gated_journal.specs.Unread.{IsFault, IsUnread, IsUnopened};
+ghost use Rattle.gated_journal.specs.Unread.{IsUnread, IsUnopened};
 ghost use Rattle.gated_journal.specs.WorkTaken.{IsTaken};
 
 use crate::area::Chosen;
@@ -38,6 +39,7 @@ pub struct Journal<D: Device> {
 
 impl<D: Device> Journal<D> {
     ghost use Rattle.gated_journal.specs.Batch.{shown, numbered_by, base_by};
+    ghost use Rattle.gated_journal.specs.Holding.{HoldsReading};
     ghost use Rattle.gated_journal.specs.Journal.{device_of, member_of, len_of, room_of, layout_of, epoch_of, is_spoiled};
     ghost use Rattle.gated_journal.specs.Written.{IsWritten};
     ghost use Rattle.gated_journal.specs.declared.work.Work.TheVariants as Work;
@@ -110,33 +112,14 @@ impl<D: Device> Journal<D> {
     ) -> Result<(Journal<D>, Opening), (D, Refusal)>
         // What is read stood there at the start, and stands in every image that a stop may leave afterwards.
         ensures reads { IfOk result (λ r. ReadsAs (member_of r.0) (D.disk device).image (reading_of_opening r.1)) }
-        ensures durable { IfOk result (λ r. AllReadAs (member_of r.0) (D.disk (device_of r.0)) (reading_of_opening r.1)) }
+        ensures holds { IfOk result (λ r. HoldsReading r.0 (reading_of_opening r.1)) }
         ensures header { IfOk result (λ r. ((member_of r.0).node ≡ node) × ((member_of r.0).n ≡ n)) }
-        ensures ready { IfOk result (λ r. is_spoiled r.0 ≡ false) }
-        ensures len { IfOk result (λ r. len_of r.0 ≡ count_in (reading_of_opening r.1)) }
-        ensures room { IfOk result (λ r. room_of r.0 ≡ (member_of r.0).capacity - used_in (reading_of_opening r.1)) }
-        ensures layout { IfOk result (λ r. layout_of r.0 ≡ r.1.layout) }
-        ensures epoch { IfOk result (λ r. epoch_of r.0 ≡ r.1.epoch) }
         ensures sound { IfOk result (λ r. IsSound n r.1.base) }
 
         // A refusal has its cause. While the device works it is the image's, or want of memory.
         ensures refusal { IfErr result (λ e. IsUnopened node n (D.count device) (D.count e.0) (D.disk device).image e.1) }
         ensures works { Reaches (D.reach device) (length (D.disk device).image) → IfErr result (λ e. (e.1 ≡ Refusal.OutOfMemory) ⊎ IsUnread node n (D.disk device).image e.1) }
-
-        // No call failed where it is opened. A call that failed is told before all else.
-        ensures same { IfOk result (λ r. D.count (device_of r.0) ≡ D.count device) }
-        ensures first { IfErr result (λ e. IsFault (D.count device) (D.count e.0) e.1 ⊎ (D.count e.0 ≡ D.count device)) }
-
-        // The device is synced, and nothing else is done to it. What is told of an image is told of a synced one.
-        ensures disk { IfOk result (λ r. D.disk (device_of r.0) ≡ synced (D.disk device)) }
-        ensures kept { IfErr result (λ e. (D.disk e.0 ≡ D.disk device) ⊎ (D.disk e.0 ≡ synced (D.disk device))) }
-        ensures stable { IfErr result (λ e. IsFault (D.count device) (D.count e.0) e.1 ⊎ (D.disk e.0 ≡ synced (D.disk device))) }
-
-        // A stop at any moment leaves what it might have left at the start.
-        ensures any_moment { IfOk result (λ r. LeavesOnly D.clock D.left_since device (device_of r.0) (MayLeave (D.disk device))) }
-        ensures any_moment_err { IfErr result (λ e. LeavesOnly D.clock D.left_since device e.0 (MayLeave (D.disk device))) }
-        ensures reach { IfOk result (λ r. D.reach (device_of r.0) ≡ D.reach device) }
-        ensures reach_err { IfErr result (λ e. D.reach e.0 ≡ D.reach device) }
+        ensures device { IsOnlySynced D.Device (λ r. device_of r.0) device result }
     {
         let mut device = device;
         match open(alloc, &mut device, node, n) {

@@ -1,7 +1,6 @@
 -- What a node stands for that is opened again, and why it is not.
 use Rattle.std.specs.Prelude.{◌≡◌, ◌⊎◌, ℕ, Bool, List, Result, IfOk, IfErr}
 use Rattle.disk_model.specs.declared.device.Device.{Ghosts}
-use Rattle.disk_model.specs.Disk.{LeavesOnly, MayLeave, synced}
 use Rattle.ring_records.specs.declared.refusal.Refusal.{Refusal}
 use Rattle.ring_records.specs.declared.refusal.Refusal.TheVariants.{OutOfMemory}
 use Rattle.ring_records.specs.Lawful.{IsLawfulState}
@@ -60,17 +59,3 @@ module _ {D : Type 0} {g : Ghosts D} where
         → IfOk result (λ made. (keep : Bool) × IsOpenedAs (member node n capacity) run (left_by keep s) (desk_of made))
     pub image_err : (capacity : ℕ) (s : NodeState) → IsLeft (member node n capacity) s (g.disk old).image
         → IfErr result (λ e. IsShortOrFault (g.count old) (g.count e.0) e.1 × ((g.disk e.0).image ≡ (g.disk old).image))
-
--- The device is synced, and nothing else is done to it, in what was made over it or handed back; what is told of an image is
--- told of a synced one. No call failed where it is made, and one that failed is told before all else. A stop at any moment
--- leaves what it might have left at the start.
-pub record IsOnlySynced {D T : Type 0} (g : Ghosts D) (device_of : T → D) (old : D) (result : Result T (D × Refusal)) : Type 0 where
-  pub same : IfOk result (λ made. g.count (device_of made) ≡ g.count old)
-  pub first : IfErr result (λ e. IsFault (g.count old) (g.count e.0) e.1 ⊎ (g.count e.0 ≡ g.count old))
-  pub disk : IfOk result (λ made. g.disk (device_of made) ≡ synced (g.disk old))
-  pub disk_err : IfErr result (λ e. (g.disk e.0 ≡ g.disk old) ⊎ (g.disk e.0 ≡ synced (g.disk old)))
-  pub stable : IfErr result (λ e. IsFault (g.count old) (g.count e.0) e.1 ⊎ (g.disk e.0 ≡ synced (g.disk old)))
-  pub any_moment : IfOk result (λ made. LeavesOnly g.clock g.left_since old (device_of made) (MayLeave (g.disk old)))
-  pub any_moment_err : IfErr result (λ e. LeavesOnly g.clock g.left_since old e.0 (MayLeave (g.disk old)))
-  pub reach : IfOk result (λ made. g.reach (device_of made) ≡ g.reach old)
-  pub reach_err : IfErr result (λ e. g.reach e.0 ≡ g.reach old)

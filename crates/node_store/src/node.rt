@@ -7,6 +7,7 @@ ghost use Rattle.ring_records.specs.Lawful.{IsNodeState, IsLawfulState};
 ghost use Rattle.ring_records.specs.Summary.{empty};
 ghost use Rattle.gated_journal.specs.Areas.{AllReadAs};
 ghost use Rattle.gated_journal.specs.Journal as journals;
+ghost use Rattle.gated_journal.specs.OnlyReads.{IsOnlySynced};
 ghost use Rattle.gated_journal.specs.Reading.{device_size, fresh_area, is_header};
 ghost use Rattle.gated_journal.specs.Unread.{IsFault, IsUnread};
 ghost use Rattle.node_core.specs.Core.{IsNodeOf};
@@ -41,7 +42,7 @@ pub struct Node<D: Device> {
 impl<D: Device> Node<D> {
     ghost use Rattle.group_commit.specs.Ticket.{shown};
     ghost use Rattle.node_store.specs.Node.{desk_of, member_of, state_of, device_of};
-    ghost use Rattle.node_store.specs.Recovery.{IsNotLawful, IsOnlySynced, IsUnrecovered, StandsAgain, StandsForAll};
+    ghost use Rattle.node_store.specs.Recovery.{IsNotLawful, IsUnrecovered, StandsAgain, StandsForAll};
 
     /// A new node, which has accepted nothing, on a device that is formatted for it. Refused as 2 where `n` is not 2 to
     /// 16, `node` is above it, or the capacity is not 4,096 to 1,048,576 bytes, as 15, and as 8. What the device holds

@@ -70,14 +70,21 @@ returns-in-Ok-clause-reads g c =
     let f = c.in-Ok.field-0 in
     record { start = f.area.start; other = f.area.other; offset = f.area.offset; gate_at = f.contents.gate_at; at = c.in-Ok.ensures.reads }
 
-pub returns-in-Ok-clause-durable : goal.returns-in-Ok-clause-durable
-returns-in-Ok-clause-durable g c =
+pub returns-in-Ok-clause-holds : goal.returns-in-Ok-clause-holds
+returns-in-Ok-clause-holds g c =
     let f = c.in-Ok.field-0 in
     let header = member c.args.node c.args.n f.capacity in
     let disk = g.D.Device.disk c.open.new.device in
     let a = f.area in
     let r = reading_of a f.contents in
-    all_read header disk r a.start a.other a.offset f.contents.gate_at (is_synced g.D.Device _ _ _ _ _ c.in-Ok.is c.open.ensures.device) (subst (λ (l : List ℕ). ReadsAt header l r a.start a.other a.offset f.contents.gate_at) (sym c.open.ensures.device.image) c.in-Ok.ensures.reads)
+    record {
+      durable = all_read header disk r a.start a.other a.offset f.contents.gate_at (is_synced g.D.Device _ _ _ _ _ c.in-Ok.is c.open.ensures.device) (subst (λ (l : List ℕ). ReadsAt header l r a.start a.other a.offset f.contents.gate_at) (sym c.open.ensures.device.image) c.in-Ok.ensures.reads);
+      ready = refl;
+      len = omega (arith, c.len.ensures);
+      room = omega (arith, c.summary_len.ensures.value, c.costs_of.ensures, ap costs_of c.deref.ensures.value);
+      layout = refl;
+      epoch = refl;
+    }
 
 pub returns-in-Ok-clause-sound : goal.returns-in-Ok-clause-sound
 returns-in-Ok-clause-sound g c =

@@ -16,8 +16,8 @@ invariant_of-result g c =
     let made = c.in-Ok-open.ensures in
     let read = c.in-Ok.ensures in
     let named : journals.member_of journal ≡ here = named_again c.args.node c.args.n c.capacity.result (journals.member_of journal) read.header.0 read.header.1 c.capacity.ensures.value in
-    let left : journals.room_of journal ≡ c.capacity.result - used_in r = omega (arith, read.room, c.capacity.ensures.value) in
-    record { stands = rw made.desk (opens here journal c.args.run r c.inside.ensures named made.lawful read.durable read.ready read.len left read.layout read.epoch) }
+    let left : journals.room_of journal ≡ c.capacity.result - used_in r = omega (arith, read.holds.room, c.capacity.ensures.value) in
+    record { stands = rw made.desk (opens here journal c.args.run r c.inside.ensures named made.lawful read.holds.durable read.holds.ready read.holds.len left read.holds.layout read.holds.epoch) }
 
 -- ---- the journal is not opened
 
@@ -29,12 +29,12 @@ returns-in-Err-clause-again g c =
       recovery = λ capacity s lawful holds. tt;
       recovery_err = λ capacity s lawful holds. (
         no_fault c.args.node c.args.n capacity s _ _ old.image c.in-Err.refusal (holds old.image stays) c.in-Err.ensures.refusal,
-        still_holds (member c.args.node c.args.n capacity) s old (g.D.Device.disk c.in-Err.device) stays c.in-Err.ensures.kept holds,
+        still_holds (member c.args.node c.args.n capacity) s old (g.D.Device.disk c.in-Err.device) stays c.in-Err.ensures.device.disk_err holds,
       );
       image = λ capacity s left. tt;
       image_err = λ capacity s left. (
         no_fault c.args.node c.args.n capacity s _ _ old.image c.in-Err.refusal left.reads c.in-Err.ensures.refusal,
-        same_image old (g.D.Device.disk c.in-Err.device) c.in-Err.ensures.kept,
+        same_image old (g.D.Device.disk c.in-Err.device) c.in-Err.ensures.device.disk_err,
       );
     }
 
@@ -54,7 +54,7 @@ returns-in-Ok-open-clause-stands g c =
       desk = rw c.in-Ok-open.ensures.desk;
       lawful = rw c.in-Ok-open.ensures.desk (read.sound, c.in-Ok-open.ensures.lawful);
       reads = rw c.in-Ok-open.ensures.desk (rw named at read.reads);
-      durable = rw c.in-Ok-open.ensures.desk (rw named at read.durable);
+      durable = rw c.in-Ok-open.ensures.desk (rw named at read.holds.durable);
     }
 
 pub returns-in-Ok-open-clause-again : goal.returns-in-Ok-open-clause-again
@@ -91,7 +91,7 @@ returns-in-Err-open-clause-again g c =
           let header = member c.args.node c.args.n capacity in
           let found = kept_by header other s old.image r (holds old.image (g.met.D.Device.may_stay c.args.device)) c.in-Ok.ensures.reads in
           let capacity_is : c.capacity.result ≡ capacity = capacity_again c.capacity.result other header c.capacity.ensures.value found.0 in
-          let held = holds_again header other s (g.D.Device.disk (journals.device_of c.in-Ok.journal)) found.1.0 r found.0 found.1.1 c.in-Ok.ensures.durable in (
+          let held = holds_again header other s (g.D.Device.disk (journals.device_of c.in-Ok.journal)) found.1.0 r found.0 found.1.1 c.in-Ok.ensures.holds.durable in (
             short_only c.args.node c.args.n capacity c.capacity.result s found.1.0 r why
                 (IsFault (g.D.Device.count c.args.device) (g.D.Device.count c.into_device.result) why) capacity_is found.1.1 lawful c.in-Err-open.ensures.refusal,
             rw c.into_device.ensures held,
@@ -103,7 +103,7 @@ returns-in-Err-open-clause-again g c =
           let capacity_is : c.capacity.result ≡ capacity = capacity_again c.capacity.result other header c.capacity.ensures.value found.0 in (
             short_only c.args.node c.args.n capacity c.capacity.result s found.1.0 r why
                 (IsFault (g.D.Device.count c.args.device) (g.D.Device.count c.into_device.result) why) capacity_is found.1.1 left.lawful c.in-Err-open.ensures.refusal,
-            ap (λ (d : g.row.D.Denot). (g.D.Device.disk d).image) c.into_device.ensures ∙ ap (λ (d : Disk). d.image) c.in-Ok.ensures.disk,
+            ap (λ (d : g.row.D.Denot). (g.D.Device.disk d).image) c.into_device.ensures ∙ ap (λ (d : Disk). d.image) c.in-Ok.ensures.device.disk,
           );
     }
 
