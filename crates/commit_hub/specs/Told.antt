@@ -1,5 +1,5 @@
 -- What a hub's calls tell without the state under its lock.
-use Rattle.std.specs.Prelude.{ℕ, ◌≡◌, ◌+◌, ◌⊎◌, Bool, true, false, not, List, [], ◌++◌, length}
+use Rattle.std.specs.Prelude.{ℕ, ◌≡◌, ◌+◌, ◌⊎◌, Bool, true, false, not, List, [], ◌++◌, length, Result, Ok, Err}
 use Rattle.std.specs.FinMap as fin
 use Rattle.ring_records.specs.declared.input.Input.{Input}
 use Rattle.ring_records.specs.declared.packet.Packet.{Packet}
@@ -23,6 +23,11 @@ use Rattle.group_commit.specs.Past.{IsPast, shifted}
 use Rattle.group_commit.specs.Since.{IsKnownState}
 use Rattle.commit_hub.specs.declared.look.Look.{Look}
 use Rattle.commit_hub.specs.Over.{is_over}
+
+-- what came of a call, of which this alone is told
+abbrev pub told_of : {X Y E : Type 0} → Result X E → (X → Y) → Result Y E
+told_of (Ok x) part = Ok (part x)
+told_of (Err why) part = Err why
 
 -- Why a node of a ring of n gives no ticket for the request: it is closed or has failed; the message is of no node of
 -- the ring; or else all numbers of tickets were given, or a growth was refused.

@@ -12,7 +12,7 @@ ghost use Rattle.group_commit.specs.Launching.{launch_objection, launched_next, 
 ghost use Rattle.node_core.specs.Core.{IsNodeOf};
 ghost use Rattle.group_commit.specs.Next.{durable_part};
 ghost use Rattle.group_commit.specs.Past.{IsPast};
-ghost use Rattle.group_commit.specs.Ending.{IsEnded};
+ghost use Rattle.group_commit.specs.Ending.{IsEnded, IsRedeemed};
 ghost use Rattle.group_commit.specs.Ticket.{shown};
 ghost use Rattle.commit_hub.specs.Desks.{flying_part, is_done, is_resting};
 ghost use Rattle.commit_hub.specs.Over.{is_over};
@@ -20,7 +20,7 @@ ghost use Rattle.commit_hub.specs.Holders.{begun_by, count_of, known_by, objecti
 ghost use Rattle.commit_hub.specs.Pages.{ForAccepted, ForTie};
 ghost use Rattle.commit_hub.specs.Places.{places_of};
 ghost use Rattle.commit_hub.specs.Props.{member-prop, summary-prop, names-prop, durable-prop, flying-prop, IsNextArea-prop};
-ghost use Rattle.commit_hub.specs.Told.{IsWindow};
+ghost use Rattle.commit_hub.specs.Told.{IsWindow, told_of};
 ghost use Rattle.commit_hub.specs.Works.{IsNextArea, stays_wanted};
 ghost use Rattle.commit_hub.specs.Rounds.{IsFailed, IsLanded, IsLaunched};
 ghost use Rattle.ring_records.specs.declared.reply.Reply.TheVariants as replied;
@@ -170,15 +170,9 @@ impl<A: NodeLedger> Locked<A> {
         &mut self,
         ticket: Ticket,
     ) -> Result<(Reply, Stub, Begun<A>), (Ticket, Refusal)>
-        ensures released { IfOk result (λ r. IsHere self.old.shared.desk.view (shown ticket) r.1) }
-        ensures reply { IfOk result (λ r. r.0 ≡ r.1.answer.reply) }
-        ensures durable { IfOk result (λ r. r.1.answer.number ≤ self.old.shared.desk.opening.inputs + self.old.shared.desk.view.state.durable) }
+        ensures redeemed { IsRedeemed self.old.shared.desk self.new.shared.desk ticket (told_of result (λ r. (r.0, r.1))) }
         ensures answer { IfOk result (λ r. (past : List Input) → IsPast A.member A.opening past → IsAnswer A.member past (begun_by r.2) r.1) }
         ensures begun { IfOk result (λ r. begun_by r.2 ≡ (durable_part self.old.shared.desk).inputs) }
-        ensures next { OnOk result (self.new.shared.desk ≡ record self.old.shared.desk { view = ended (shown ticket).own self.old.shared.desk.view }) }
-        ensures refusal { IfErr result (λ e. IsSealed self.old.shared.desk (shown ticket) e.1) }
-        ensures back { IfErr result (λ e. shown e.0 ≡ shown ticket) }
-        ensures same { OnErr result (self.new.shared.desk ≡ self.old.shared.desk) }
 
         // A reply for want of room wants a checkpoint, until one is launched, and nothing else does.
         ensures wants { IfOk result (λ r. r.0 ≡ replied.Refused Refusal.Full → self.new.is_wanted ≡ true) }

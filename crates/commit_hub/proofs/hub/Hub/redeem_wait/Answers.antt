@@ -7,4 +7,4 @@ use Rattle.commit_hub.proofs.hub.Hub.redeem_wait.Goals as goal
 pub returns-in-Err-clause-failed : goal.returns-in-Err-clause-failed
 returns-in-Err-clause-failed g c failed =
     let locked = c.deref_mut.result.now.locked in
-    sym (ap (λ (t : TicketView). t.node) c.loop.invariant.1) ∙ (failed_own locked.shared.desk _ _ c.in-Err.ensures.refusal failed ∙ ap (λ (m : Member). m.node) locked.of)
+    sym (ap (λ (t : TicketView). t.node) c.loop.invariant.1) ∙ (failed_own locked.shared.desk _ _ c.in-Err.ensures.redeemed.refusal failed ∙ ap (λ (m : Member). m.node) locked.of)
