@@ -6,7 +6,7 @@ ghost use Rattle.ring_records.specs.Lawful.{IsNodeState};
 ghost use Rattle.ring_records.specs.Props.{IsNodeState-prop};
 ghost use Rattle.ring_records.specs.Release.{packets, notices, window};
 ghost use Rattle.gated_journal.specs.Batch.{landed as receipted, lost};
-ghost use Rattle.group_commit.specs.Desk.{seen, ended, landed, objection, IsSubmitted, IsAnswer, IsHere, IsSealed};
+ghost use Rattle.group_commit.specs.Desk.{seen, landed, objection, IsSubmitted, IsAnswer};
 ghost use Rattle.group_commit.specs.DeskCalls.{let_go, IsFlying};
 ghost use Rattle.group_commit.specs.Launching.{launch_objection, launched_next, IsNoWork, IsUnlaunched, IsWorkOf};
 ghost use Rattle.node_core.specs.Core.{IsNodeOf};
