@@ -20,7 +20,6 @@ import pathlib
 import re
 import shutil
 import socket
-import struct
 import subprocess
 import sys
 import tempfile
@@ -28,7 +27,7 @@ import time
 from collections.abc import Callable, Iterator
 from typing import NamedTuple
 
-from refusing import NAMES, NODES, ORDERS, Refusal, Refuser, exchange
+from refusing import NODES, Refusal, Refuser, exchange
 from short import Failed, free_ports
 
 HERE = pathlib.Path(__file__).resolve().parent
@@ -72,18 +71,11 @@ class Trial:
 
     def order(self, name: str, way: int, pause: float = 0.0, is_for_good: bool = True) -> None:
         """The next call of a name, or each from now on, fails so, or begins so much later."""
-        with open(self.refuser.orders, "r+b") as file:
-            counts = struct.unpack("=8Q", file.read(64))
-            place = NAMES.index(name)
-            rest = ORDERS.pack(*counts, place, way, is_for_good, int(pause * 1000), counts[place] + 1, 0)[64:]
-            file.seek(64)
-            file.write(rest)
+        self.refuser.order(name, way, pause, is_for_good)
 
     def obey(self) -> None:
         """No call is refused from now on."""
-        with open(self.refuser.orders, "r+b") as file:
-            file.seek(ORDERS.size - 16)
-            file.write(struct.pack("=Q", 0))
+        self.refuser.obey()
 
     def ask(self, line: str, node: int = 1) -> str:
         """The answer to a line, in a session that stays."""

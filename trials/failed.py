@@ -6,7 +6,7 @@ have, and then, since none of them is credited, 1,024 of them again and again, e
 keeps none: at each look no message has waited there for a second, and behind the last Stand the memory of ringd stands still, but for a
 tenth and a MiB.
 
-  --ringd PATH     the server, `bin/ringd` by default.
+  --ringd PATH     the server, `bin/ringd` by default. One that `rt try` built keeps for a while what is freed, and seems to grow.
   --messages N     4,000 to 1,000,000, 100,000 by default, which takes some twelve minutes.
 
 Status 0 where it is so, 1 where it is not, 2 where a word is wrong."""
@@ -21,7 +21,7 @@ import tempfile
 import time
 
 from hangs import HOST, NODE, get, value
-from refusing import NODES, ORDERS, NAMES, Refusal, Refuser, exchange
+from refusing import NODES, Refusal, Refuser, exchange, serving
 from short import Failed, free_ports
 
 CAPACITY = 1 << 20
@@ -42,11 +42,7 @@ def memory(process: int) -> int:
 
 def fail(refuser: Refuser, port: int) -> None:
     """The next sync is refused, which is that of a Stand at node 2: its device has failed for good then."""
-    with open(refuser.orders, "r+b") as file:
-        counts = ORDERS.unpack(file.read(ORDERS.size))[:8]
-        name = NAMES.index("fdatasync")
-        file.seek(0)
-        file.write(ORDERS.pack(*counts, name, 0, 0, 0, counts[name] + 1, 0))
+    refuser.order("fdatasync")
     with socket.create_connection((HOST, port + NODE - 1), 10) as session:
         if not (told := exchange(session, "stand blue 1 1")).startswith("no 9 "):
             raise Failed(f"where its disk fails node {NODE} tells {told!r}")
@@ -83,28 +79,17 @@ def send(ringd: str, folder: str, messages: int) -> None:
     """A ring of which node 2 fails, and so many messages to it."""
     refuser = Refuser(folder)
     port = free_ports(NODES + 1)
-    settings = os.path.join(folder, "settings")
-    with open(settings, "w", encoding="ascii") as file:
-        file.write(f'nodes = {NODES}\ndir = "{folder}/ring"\nport = {port}\ncapacity = {CAPACITY}\n')
-    os.mkdir(os.path.join(folder, "ring"))
-    words = [os.path.abspath(ringd), "--settings", settings, "--always", "--status", str(port + NODES)]
-    with subprocess.Popen(words, stdin=subprocess.DEVNULL, stdout=subprocess.PIPE, stderr=subprocess.DEVNULL,
-                          env=refuser.environment(Refusal("fdatasync"))) as process:
-        try:
-            while b"serving" not in (line := process.stdout.readline()):
-                if not line:
-                    raise Failed("ringd does not serve")
-            fail(refuser, port)
-            stood = fill(port, port + NODES)
-            begun, before = time.monotonic(), memory(process.pid)
-            while (sent := stood + AGAIN * int((time.monotonic() - begun) / EACH)) < messages:
-                time.sleep(1)
-                look(port + NODES, f"some {sent} messages")
-            after = memory(process.pid)
-            if after > before + before // 10 + SLACK:
-                raise Failed(f"behind {stood} messages it had {before} KiB in memory, and behind {sent} {after}")
-        finally:
-            process.kill()
+    with serving(ringd, folder, f"port = {port}\ncapacity = {CAPACITY}\n", ["--status", str(port + NODES)],
+                 refuser.environment(Refusal("fdatasync")), subprocess.DEVNULL) as process:
+        fail(refuser, port)
+        stood = fill(port, port + NODES)
+        begun, before = time.monotonic(), memory(process.pid)
+        while (sent := stood + AGAIN * int((time.monotonic() - begun) / EACH)) < messages:
+            time.sleep(1)
+            look(port + NODES, f"some {sent} messages")
+        after = memory(process.pid)
+        if after > before + before // 10 + SLACK:
+            raise Failed(f"behind {stood} messages it had {before} KiB in memory, and behind {sent} {after}")
     print(f"messages {sent} of {stood} Stands, memory {before} KiB behind the Stands, {after} KiB in the end")
 
 

@@ -17,14 +17,12 @@ import http.client
 import os
 import shutil
 import socket
-import struct
-import subprocess
 import sys
 import tempfile
 import time
 from typing import NamedTuple
 
-from refusing import NAMES, NODES, ORDERS, Refusal, Refuser, answer, exchange
+from refusing import NODES, Refusal, Refuser, answer, exchange, serving
 from short import Failed, free_ports
 
 HANG = 10
@@ -89,17 +87,6 @@ def judge(seen: Seen, pause: float) -> None:
         raise Failed(f"after {seen.second:.1f} s: {seen}")
 
 
-def hang(refuser: Refuser, pause: float) -> None:
-    """The next sync begins so much later."""
-    with open(refuser.orders, "r+b") as file:
-        counts = struct.unpack("=8Q", file.read(64))
-        name = NAMES.index("fdatasync")
-        file.seek(0)
-        rest = ORDERS.pack(*counts, name, 0, 0, int(pause * 1000), counts[name] + 1, 0)[64:]
-        file.seek(64)
-        file.write(rest)
-
-
 class Others:
     """Sessions at the nodes whose disks do not hang, which stand for one term of a group after the other."""
 
@@ -146,7 +133,7 @@ def watch(refuser: Refuser, port: int, status: int, pause: float) -> None:
         # Behind an election the ring comes to rest.
         time.sleep(1)
         others = Others(port, pause)
-        hang(refuser, pause)
+        refuser.order("fdatasync", pause=pause)
         begun = time.monotonic()
         session.sendall(b"stand red 5 10\n")
         # The sync that hangs is that of this Stand.
@@ -171,7 +158,7 @@ def watch(refuser: Refuser, port: int, status: int, pause: float) -> None:
 def stand(port: int, refuser: Refuser, pause: float) -> None:
     """Asks node 2 for a Stand whose sync hangs, where nobody else is asked."""
     with socket.create_connection(("127.0.0.1", port + NODE - 1), pause + 10) as session:
-        hang(refuser, pause)
+        refuser.order("fdatasync", pause=pause)
         if (told := exchange(session, "stand red 5 10")) != "stood":
             raise Failed(f"the Stand is answered with {told!r}")
     # What is over is told within a second.
@@ -184,24 +171,13 @@ def serve(ringd: str, pause: float, with_status: bool) -> None:
     try:
         refuser = Refuser(folder)
         port = free_ports(NODES + 1)
-        settings = os.path.join(folder, "settings")
-        with open(settings, "w", encoding="ascii") as file:
-            file.write(f'nodes = {NODES}\ndir = "{folder}/ring"\nport = {port}\n')
-        os.mkdir(os.path.join(folder, "ring"))
-        ring = [os.path.abspath(ringd), "--settings", settings, "--always", "--doors", "2"] + (["--status", str(port + NODES)] if with_status else [])
+        words = ["--doors", "2"] + (["--status", str(port + NODES)] if with_status else [])
         with open(os.path.join(folder, "err"), "w+b") as errors:
-            with subprocess.Popen(ring, stdin=subprocess.DEVNULL, stdout=subprocess.PIPE, stderr=errors,
-                                  env=refuser.environment(Refusal("fdatasync"))) as process:
-                try:
-                    while b"serving" not in (line := process.stdout.readline()):
-                        if not line:
-                            raise Failed("ringd does not serve")
-                    if with_status:
-                        watch(refuser, port, port + NODES, pause)
-                    else:
-                        stand(port, refuser, pause)
-                finally:
-                    process.kill()
+            with serving(ringd, folder, f"port = {port}\n", words, refuser.environment(Refusal("fdatasync")), errors):
+                if with_status:
+                    watch(refuser, port, port + NODES, pause)
+                else:
+                    stand(port, refuser, pause)
             errors.seek(0)
             told = errors.read().decode("ascii", "replace").splitlines()
         if told != [f"ringd: node {NODE} hangs", f"ringd: node {NODE} goes on"]:

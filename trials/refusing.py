@@ -1,4 +1,5 @@
 """Runs of a program of which one call is refused, by refuse.c."""
+import contextlib
 import os
 import select
 import shutil
@@ -7,15 +8,16 @@ import struct
 import subprocess
 import sys
 import time
-from typing import NamedTuple
+from collections.abc import Iterator
+from typing import IO, NamedTuple
 
 from known import Known, Question, Session
-from short import free_ports
+from short import Failed, free_ports
 
 HERE = os.path.dirname(os.path.abspath(__file__))
 NAMES = ("memory", "pwrite", "fdatasync", "fsync", "ftruncate", "rename", "openat", "pread")
 # The file of orders: counts, the name, the way, for good, the pause, the call that is refused, how many were.
-ORDERS = struct.Struct("=8Q4I2Q")
+COUNTS, ORDERS = struct.Struct("=8Q"), struct.Struct("=8Q4I2Q")
 NODES, CAPACITY, SECONDS = 3, 4_096, 10
 # How long a ring that lacks memory is waited for, in seconds: it may wait for good.
 SHORT = 0.4
@@ -48,10 +50,43 @@ class Refuser:
             file.write(ORDERS.pack(*[0] * 8, NAMES.index(refusal.name), refusal.way, refusal.for_good, 0, refusal.at, 0))
         return {**os.environ, "LD_PRELOAD": self.library, "REFUSE": self.orders}
 
+    def order(self, name: str, way: int = 0, pause: float = 0.0, is_for_good: bool = False) -> None:
+        """The next call of a name, or each from now on, fails so, or begins so many seconds later. What is counted meanwhile stays."""
+        with open(self.orders, "r+b") as file:
+            counts = COUNTS.unpack(file.read(COUNTS.size))
+            place = NAMES.index(name)
+            rest = ORDERS.pack(*counts, place, way, is_for_good, int(pause * 1000), counts[place] + 1, 0)[COUNTS.size:]
+            file.seek(COUNTS.size)
+            file.write(rest)
+
+    def obey(self) -> None:
+        """No call is refused from now on."""
+        with open(self.orders, "r+b") as file:
+            file.seek(ORDERS.size - 16)
+            file.write(struct.pack("=Q", 0))
+
     def refused(self) -> int:
         """How many calls were refused."""
         with open(self.orders, "rb") as file:
             return ORDERS.unpack(file.read())[-1]
+
+
+@contextlib.contextmanager
+def serving(ringd: str, folder: str, settings: str, words: list[str], environment: dict[str, str], errors: IO[bytes] | int) -> Iterator[subprocess.Popen]:
+    """A ring of three nodes below the folder that serves with these settings, and is killed in the end. Refused where it does not serve."""
+    path = os.path.join(folder, "settings")
+    with open(path, "w", encoding="ascii") as file:
+        file.write(f'nodes = {NODES}\ndir = "{folder}/ring"\n{settings}')
+    os.mkdir(os.path.join(folder, "ring"))
+    with subprocess.Popen([os.path.abspath(ringd), "--settings", path, "--always", *words], stdin=subprocess.DEVNULL,
+                          stdout=subprocess.PIPE, stderr=errors, env=environment) as process:
+        try:
+            while b"serving" not in (line := process.stdout.readline()):
+                if not line:
+                    raise Failed("ringd does not serve")
+            yield process
+        finally:
+            process.kill()
 
 
 class End(NamedTuple):
