@@ -10,16 +10,16 @@ ROOT is the repository, by default the one that this file stands in. Nothing is 
   what crate, function or edit a name has to be;
 - what docs/promises.py prints of the sources: each public call with a contract has a comment, and each edit, a wrong
   body or a program that must not compile, has a line `says:`, and old texts that stand once in their files;
-- the README.md of each crate but those of tests and of rows, which has 60 to 300 words;
+- the README.md of each crate, which is there and says something; only crates of tests and of rows may lack it;
 - every relative link of README.md, docs/*.md and each other README.md, its heading too, and every page of docs/ that
   one of them names;
-- the words of each page that MOST_WORDS names, and of all pages, of which there may be no more than is said there;
 - the logic that README.md trusts, which is the one that `rt version` prints;
 - examples/alerts.yml and examples/grafana.json: each metric is one that the code tells, each alert has a severity and a
   runbook's heading.
 
-Each fault is a line `FILE:LINE: what is wrong`. Behind them stands how many edits and words there are. The last line is `N names, M not found`, where links, pages and edits
-count as names. The status is 0 where there is no fault, 1 where there is one, and 2 where ROOT has no docs/PROMISES.md."""
+Each fault is a line `FILE:LINE: what is wrong`. Behind them stands how many edits there are. The last line is
+`N names, M not found`, where links, pages and edits count as names. The status
+is 0 where there is no fault, 1 where there is one, and 2 where ROOT has no docs/PROMISES.md."""
 
 import pathlib
 import re
@@ -32,10 +32,6 @@ from typing import Iterator, NamedTuple
 import promises as made
 from metrics import examples
 
-# Of these pages, and of README.md, CHANGELOG.md, docs/*.md and each other README.md together.
-MOST_WORDS = {"README.md": 1500, "docs/PROMISES.md": 4000, "docs/CLIENTS.md": 1700, "docs/OPERATING.md": 4500, "docs/TESTS.md": 1700}
-MOST_WORDS_OF_ALL = 41000
-WORDS_OF_A_CRATE = range(60, 301)
 # What the language or its library names, or a line that a client sends, and no file of the repository.
 LANGUAGE = {*"Eq Ord PartialOrd Debug Display From Ok Err None Option Result Read Write BufRead Brand requires ensures bye CINOWETA_TERM".split()}
 CLAUSE = re.compile(r"\s*(?:ensures|requires)\s+(\w+\s+)?\{")
@@ -334,18 +330,6 @@ def logics(path: pathlib.Path) -> Iterator[tuple[bool, int, str]]:
         yield it in LOGIC.findall(version), number, f"{it} is named, and rt version prints {version}"
 
 
-def lengths(root: pathlib.Path, words: dict[pathlib.Path, int], readmes: list[pathlib.Path]) -> Iterator[str]:
-    """What is wrong with how many words the pages have, and each README.md of a crate that is not there."""
-    for path in readmes:
-        if words.get(path, 0) not in WORDS_OF_A_CRATE:
-            yield f"{path.relative_to(root)}:1: it has {words.get(path, 0)} words, and has to have {WORDS_OF_A_CRATE[0]} to {WORDS_OF_A_CRATE[-1]}"
-    for name, most in MOST_WORDS.items():
-        if words[root / name] > most:
-            yield f"{name}:1: it has {words[root / name]} words, more than {most}"
-    if sum(words.values()) > MOST_WORDS_OF_ALL:
-        yield f"all pages have {sum(words.values())} words, more than {MOST_WORDS_OF_ALL}"
-
-
 def main() -> int:
     root = pathlib.Path(sys.argv[1] if len(sys.argv) > 1 else pathlib.Path(__file__).parent.parent).resolve()
     if not (root / "docs" / "PROMISES.md").is_file():
@@ -368,13 +352,12 @@ def main() -> int:
                 faults.append(f"{path.relative_to(root)}:{line}: {what}")
     missing = len(faults)
     faults += [f"{path.relative_to(root)}:{line}: {what}" for path, line, what in sources.faults()]
-    words = {path: len(path.read_text().split()) for path in [*pages, root / "CHANGELOG.md"]}
-    faults += lengths(root, words, readmes)
+    silent = [path for path in readmes if not path.is_file() or not path.read_text().strip()]
+    faults += [f"{path.relative_to(root)}:1: it is not there, or empty" for path in silent]
     gate = sum(it.path.parent.name == "must-fail" for it in sources.edits)
     by_tests = sum("by_tests" in it.path.parts for it in sources.edits)
     edits = f"{len(sources.edits)} edits: {gate} tried by the gate, {by_tests} that a test refuses"
-    lengthy = f"{sum(words.values())} words, {words[root / 'docs' / 'PROMISES.md']} of them in docs/PROMISES.md"
-    print("\n".join([*faults, edits, lengthy, f"{count} names, {missing} not found"]))
+    print("\n".join([*faults, edits, f"{count} names, {missing} not found"]))
     return 1 if faults else 0
 
 
