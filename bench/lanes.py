@@ -73,7 +73,10 @@ def costs(text: str) -> dict[str, Cost]:
         elif len(cells) != len(HEADS):
             break
         elif cells[0] != ALL and not set(line) <= set("|-: "):
-            found[cells[0]] = Cost(*(float(it or 0) for it in cells[1:]))
+            try:
+                found[cells[0]] = Cost(*(float(it or 0) for it in cells[1:]))
+            except ValueError:
+                raise Fault(f"the row of {cells[0]} has what is no number") from None
     if not found:
         raise Fault(f"no table has the heads {', '.join(HEADS)}")
     return found

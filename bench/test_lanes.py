@@ -51,6 +51,10 @@ class Tables(unittest.TestCase):
         with self.assertRaises(Fault):
             lanes.costs("| crate | lines |\n|---|---|\n| base | 10 |\n")
 
+    def test_a_row_without_numbers_is_refused(self):
+        with self.assertRaises(Fault):
+            lanes.costs("| crate | its proof | its tests | its edits |\n|---|---|---|---|\n| base | much |  |  |\n")
+
     def test_a_crate_stands_on_all_below_it(self):
         self.assertEqual(
             lanes.libraries(CRATES),
