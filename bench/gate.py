@@ -4,8 +4,7 @@
 It runs in the current folder, and hands on the exit status. Every half second it looks through /proc for processes of the
 toolchain below the gate. The time of one is what it and all below it, forked copies too, have taken by then, user plus
 system. By the crate that is checked there are three kinds: a proof, the tests of a crate (`--test`), and an edit, whose
-folder is a copy named rt-edit-... The table of them is Markdown. What tests/run.py takes, which tests the programs that were
-built and the packages, is a line of its own."""
+folder is a copy named rt-edit-... The table of them is Markdown. What tests/run.py and all below it took is a line of its own."""
 
 import collections
 import os
@@ -19,7 +18,8 @@ PAUSE = 0.5
 TICKS = os.sysconf("SC_CLK_TCK")
 KINDS = ("proof", "tests", "edits")
 OTHER = ("", "other")
-OF_PROGRAMS = ("", "tests of programs and packages")
+# The tests of programs and packages, which tests/run.py runs behind `rt ci`.
+PROGRAMS = ("", "programs")
 
 # A process that runs: its parent, its start, and its ticks with those of its children that ended and were waited for.
 Process = collections.namedtuple("Process", "parent start ticks")
@@ -39,15 +39,16 @@ def processes():
 
 
 def purpose(number, top):
-    """The crate and the kind of a process of the toolchain, or that it is tests/run.py; None of any other process, and of one that has ended."""
+    """The crate and the kind of a process of the toolchain, or what runs the tests of programs; None of any other process, and of one
+    that has ended."""
     try:
         with open(f"/proc/{number}/cmdline", errors="replace") as cmdline:
             words = cmdline.read().split("\0")
         folder = os.readlink(f"/proc/{number}/cwd")
     except OSError:
         return None
-    if os.path.join(folder, words[1] if len(words) > 1 else "") == f"{top}/tests/run.py":
-        return OF_PROGRAMS
+    if f"{top}/tests/run.py" in (os.path.join(folder, word) for word in words[:2]):
+        return PROGRAMS
     if not os.path.basename(words[0]).startswith("rattle"):
         return None
     if words[1:2] not in (["check"], ["build"]) or "--crate-name" not in words:
@@ -61,7 +62,7 @@ def purpose(number, top):
 
 
 class Costs:
-    """What each process of the toolchain below the gate was for, or that of tests/run.py, and its ticks with those of all below it."""
+    """What each process of the toolchain below the gate was for, and its ticks with those of all below it."""
 
     def __init__(self, gate, top):
         self.gate, self.top = gate, top
@@ -84,7 +85,7 @@ class Costs:
         self.ticks.update(now)
 
     def tool(self, number, start):
-        """What names this process, if it is one of the toolchain, or tests/run.py."""
+        """What names this process, if it is one of the toolchain."""
         key = number, start
         if key not in self.purposes:
             what = purpose(number, self.top)
@@ -127,8 +128,8 @@ def main():
     used = resource.getrusage(resource.RUSAGE_CHILDREN)
     whole, seconds = used.ru_utime + used.ru_stime, costs.seconds()
     print(f"\nProcessor seconds, user plus system:\n\n{table(seconds)}\n")
-    print(f"{seconds[OF_PROGRAMS]:.0f} processor seconds of tests/run.py, which tests programs and packages\n")
     print(
+        f"{seconds[PROGRAMS]:.0f} processor seconds of the tests of programs and packages (tests/run.py)\n\n"
         f"{whole:.0f} processor seconds in all, with {seconds[OTHER]:.0f} of other tools (must_not_compile, layout, linking, tests that run)"
         f" and {whole - sum(seconds.values()):.0f} not attributed (rt, programs, ends between two looks);"
         f" wall time {wall:.0f} s; exit status {status}"

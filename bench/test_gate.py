@@ -53,8 +53,8 @@ class Purposes(unittest.TestCase):
         self.assertEqual(self.purpose("crates/door", "rattle", "fmt"), gate.OTHER)
 
     def test_the_tests_of_programs_are_told_by_their_file_in_this_folder(self):
-        self.assertEqual(self.purpose(".", "python3", "tests/run.py", program=sys.executable), gate.OF_PROGRAMS)
-        self.assertEqual(self.purpose("tests", "python3", f"{self.top}/tests/run.py", program=sys.executable), gate.OF_PROGRAMS)
+        self.assertEqual(self.purpose(".", "python3", "tests/run.py", program=sys.executable), gate.PROGRAMS)
+        self.assertEqual(self.purpose("tests", "python3", f"{self.top}/tests/run.py", program=sys.executable), gate.PROGRAMS)
         self.assertIsNone(self.purpose("trials", "sh", "run.py"))
 
     def test_what_has_ended_is_for_nothing(self):
@@ -65,7 +65,7 @@ class Purposes(unittest.TestCase):
 
 class Tables(unittest.TestCase):
     def test_the_dearest_crate_comes_first_and_what_is_of_no_crate_has_no_row(self):
-        seconds = {("door", "proof"): 7.4, ("bell", "proof"): 2.0, ("bell", "tests"): 9.0, gate.OTHER: 5.0, gate.OF_PROGRAMS: 3.0}
+        seconds = {("door", "proof"): 7.4, ("bell", "proof"): 2.0, ("bell", "tests"): 9.0, gate.OTHER: 5.0, gate.PROGRAMS: 3.0}
         rows = gate.table(gate.collections.Counter(seconds)).splitlines()[2:]
         self.assertEqual(rows, ["| bell | 2 | 9 |  |", "| door | 7 |  |  |", "| all crates | 9 | 9 | 0 |"])
 
