@@ -300,9 +300,13 @@ def main() -> int:
     crates: dict[str, House] = defaultdict(House)
     for path in tree.texts:
         crates[path.parts[1]].add(tree.house(path))
-    for name, cost in lanes.costs((root / "docs" / "DEVELOPING.md").read_text()).items():
-        if name in crates:
-            crates[name].seconds = sum(cost)
+    try:
+        spent = lanes.costs((root / "docs" / "DEVELOPING.md").read_text())
+    except (OSError, lanes.Fault) as fault:
+        spent = {}
+        print(f"house.py: no seconds are told: docs/DEVELOPING.md: {fault}", file=sys.stderr)
+    for name in crates.keys() & spent.keys():
+        crates[name].seconds = sum(spent[name])
     everywhere = tree.places(tree.modules())
     owners = {name: sorted({it.parts[1] for it in paths}) for name, paths in everywhere.items()}
     shared = {name: them for name, them in sorted(owners.items()) if len(them) > 1}
