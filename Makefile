@@ -201,7 +201,7 @@ faults: bin/ringd
 	@trials/faults.py
 
 growths: bin/ringctl bin/ringd
-	@for crate in ring_tests server_tests; do (cd crates/$$crate && rt test > /dev/null) || exit 1; done
+	@for crate in $$(trials/growths.py --crates); do (cd crates/$$crate && rt test > /dev/null) || exit 1; done
 	@trials/growths.py
 
 flips: bin/ringd

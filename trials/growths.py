@@ -1,5 +1,6 @@
 #!/usr/bin/env python3
 """growths.py [--programs FOLDER] [--tests FOLDER] [--every N] [--first N] [PART..]
+growths.py --crates
 
 Refuses a growth of the programs, by trials/refuse.c: growth 1, 2, 3 and so on, until a run has none that is refused. The PARTs, all of
 them where none is named:
@@ -15,6 +16,7 @@ them where none is named:
   --tests FOLDER      where the crates with their out/ are, `crates` by default.
   --every N           only each Nth growth of a ring.
   --first N           of a ring, from growth N on, so that runs side by side may share them.
+  --crates            prints the crates of tests that have such a test, and refuses nothing.
 
 It prints a line for each test, script and ring with how many growths were refused, and each fault. The last line is `growths N faults F`.
 Status 0 where there was no fault; 1 where there was one; 2 where a word is wrong, or a program or a compiler is missing."""
@@ -22,6 +24,7 @@ Status 0 where there was no fault; 1 where there was one; 2 where a word is wron
 import argparse
 import errno
 import os
+import pathlib
 import re
 import shutil
 import signal
@@ -35,12 +38,11 @@ from refusing import ELECTIONS, SPARED, Refusal, Refuser, Ring, filled
 HERE = os.path.dirname(os.path.abspath(__file__))
 ROOT = os.path.dirname(HERE)
 TEST = re.compile(r"(?:\w+::)*(?:refused_growths|a_refused_growth)\w*")
+DECLARED = re.compile(r"^fn (?:refused_growths|a_refused_growth)", re.M)
 # What a ring may say that lacked memory.
 SAID = re.compile(r"|".join([r"", r"ringd: out of memory\n", r"ringd: node [1-3]: memory\n", r"(ringd: node [1-3] (failed|memory)\n)+",
                              r"ringd: no thread can be started\n"]))
 SECONDS = 10
-# The crates whose tests call again after a refusal.
-GROWN = ("ring_tests", "server_tests")
 
 
 class Trial:
@@ -115,10 +117,16 @@ class Trial:
         print(f"ringd {place}: {count} growths; it said {dict(said)}", flush=True)
 
 
+def grown(crates: str) -> list[str]:
+    """The crates of tests in which a growth is refused, by their sources."""
+    sources = sorted(pathlib.Path(crates).glob("*_tests/src/**/*.rt"))
+    return sorted({it.relative_to(crates).parts[0] for it in sources if DECLARED.search(it.read_text(encoding="utf-8"))})
+
+
 def found(crates: str) -> list[tuple[str, str]]:
     """The tests that call again, by their programs and whole names."""
     tests = []
-    for crate in GROWN:
+    for crate in grown(crates):
         program = os.path.join(crates, crate, "out", f"{crate}_tests")
         if not os.access(program, os.X_OK):
             print(f"growths.py: {program} is not there; rt test builds it", file=sys.stderr)
@@ -147,7 +155,11 @@ def main() -> int:
     parser.add_argument("--tests", default=os.path.join(ROOT, "crates"))
     parser.add_argument("--every", type=int, default=1, metavar="N")
     parser.add_argument("--first", type=int, default=1, metavar="N")
+    parser.add_argument("--crates", action="store_true")
     words = parser.parse_args()
+    if words.crates:
+        print(*grown(words.tests))
+        return 0
     words.programs, words.tests = os.path.abspath(words.programs), os.path.abspath(words.tests)
     for part in words.parts:
         if part not in ("tests", "ringctl", "ringd"):

@@ -1,5 +1,5 @@
 use Rattle.std.specs.Prelude.{◌≡◌, ◌+◌, ◌≤◌, length}
-use Rattle.ring_tests.proofs.journal.pieces.fed.Given as goal
+use Rattle.node_tests.proofs.journal.pieces.fed.Given as goal
 
 -- what was fed and what is left are no more than the area's bytes
 abbrev pub invariant-loop-i : goal.invariant-loop-i

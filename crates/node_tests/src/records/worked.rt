@@ -17,7 +17,7 @@ ghost use Rattle.ring_records.specs.Leader.{latest};
 ghost use Rattle.ring_records.specs.Release.{packets, notices, window};
 ghost use Rattle.ring_records.specs.WorkedRetire.{red};
 ghost use Rattle.ring_records.specs.WorkedRun.{red_5};
-ghost use Rattle.ring_tests.specs.Worked.{blue, of, token_1, token_2, token_3, news, node_1, node_2, node_3, led_red_5, stood_5, credited, led_9, gave_up, counted, area};
+ghost use Rattle.node_tests.specs.Worked.{blue, of, token_1, token_2, token_3, news, node_1, node_2, node_3, led_red_5, stood_5, credited, led_9, gave_up, counted, area};
 
 /// What each node of the first election sent.
 pub fn sent_in_the_first_election()

@@ -1,5 +1,5 @@
 use Rattle.std.proofs.Common.{ℕ, ◌∙◌, arith, length-take, length-drop}
-use Rattle.ring_tests.proofs.journal.pieces.fed.Goals as goal
+use Rattle.node_tests.proofs.journal.pieces.fed.Goals as goal
 
 pub goes_on-requires : goal.goes_on-requires
 goes_on-requires g c = omega (arith, c.loop-i.invariant.0, c.loop-i.invariant.1, c.requires.room, length-take c.min-there.result c.loop-i.rest.now)
