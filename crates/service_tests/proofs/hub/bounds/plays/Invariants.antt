@@ -1,0 +1,10 @@
+use Rattle.std.specs.Prelude.{◌+◌, length}
+use Rattle.service_tests.proofs.hub.bounds.plays.Given as goal
+
+-- the ledger is named by its page, and what it names by the desk
+
+abbrev pub ghosts-on_hub-A-Ledger : goal.ghosts-on_hub-A-Ledger
+ghosts-on_hub-A-Ledger g a = record { name = a.blanks.accepted.name; parts = a.blanks.accepted.parts }
+
+abbrev pub ghosts-on_hub-A-NodeLedger : goal.ghosts-on_hub-A-NodeLedger
+ghosts-on_hub-A-NodeLedger g a = record { member = a.desk.view.member; opening = a.desk.opening; opened = a.desk.opening.inputs + length a.desk.view.state.inputs; tied = a.blanks.held.name }
