@@ -5,7 +5,7 @@ ghost use Rattle.commit_hub.specs.Stances.{lacks_room, takes_stands};
 use ring_records::{INPUT_BYTES, Shown};
 
 /// What a hub shows of its node at one moment, as plain counts.
-#[derive(Clone, Copy, Debug, PartialEq, Eq)]
+#[derive(Clone, Copy, PartialEq, Eq)]
 pub struct Look {
     /// Its inputs, those of them that are durable, and how far its links are.
     pub shown: Shown,

@@ -13,7 +13,7 @@ ghost use Rattle.ring_records.specs.Lists.{or_else};
 use ring_records::{Bid, Candidate, Key, Msg, NodeNo};
 
 /// What one node knows of one key, as long as the key is not retired.
-#[derive(Clone, Copy, Debug, PartialEq, Eq)]
+#[derive(Clone, Copy, PartialEq, Eq)]
 pub struct Ballot {
     /// Its own bid, if it stood.
     pub stood: Option<Bid>,

@@ -6,7 +6,7 @@ ghost use Rattle.disk_model.specs.Calls.{IsPart, Puts, Unsyncs, Elapses, HasCaus
 use crate::system_fault::SystemFault;
 
 /// A device's call failed. The device's count of failures tells of it.
-#[derive(Clone, Copy, Debug, PartialEq, Eq)]
+#[derive(Clone, Copy, PartialEq, Eq)]
 pub struct DeviceFault;
 
 /// A device of bytes, from offset 0 to `size()`, that a stop may come upon at any moment, within a call too. What is

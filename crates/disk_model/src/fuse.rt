@@ -9,7 +9,7 @@ use crate::{Device, DeviceFault, SystemCall, SystemFault};
 use std::io::ErrorKind;
 
 // Which calls from now on fail.
-#[derive(Clone, Copy, Debug)]
+#[derive(Clone, Copy)]
 enum Fuse {
     /// None.
     Idle,

@@ -12,7 +12,7 @@ use crate::{Device, DeviceFault, SystemFault};
 use std::alloc::{AllocError, Global};
 
 /// What a stop makes of the ranges written since the last sync that succeeded.
-#[derive(Clone, Copy, Debug, PartialEq, Eq)]
+#[derive(Clone, Copy, PartialEq, Eq)]
 pub enum Tear {
     /// They get their old bytes, and the device its old end: no write took effect.
     Old,

@@ -16,7 +16,7 @@ pub const TEXT_BYTES: usize = 200;
 pub const MARK_BYTES: usize = 223;
 
 /// What a line says of what its session stood for.
-#[derive(Clone, Copy, Debug, PartialEq, Eq)]
+#[derive(Clone, Copy, PartialEq, Eq)]
 pub enum Mark {
     /// Its client tells a text for the group: the last so many bytes of the line.
     Tell(GroupName, usize),

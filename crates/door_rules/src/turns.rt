@@ -17,7 +17,7 @@ pub fn is_over(is_short: bool, lines: u64) -> bool
 
 /// The doors of a node, how many of them serve a session, at which one that took the last free one is, as long as no other is
 /// free, and since when all but one are held at least, in seconds of some clock.
-#[derive(Clone, Copy, Debug, PartialEq, Eq)]
+#[derive(Clone, Copy, PartialEq, Eq)]
 pub struct Turns {
     pub doors: u32,
     pub busy: u32,

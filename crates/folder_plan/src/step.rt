@@ -5,7 +5,7 @@ use ring_records::NodeNo;
 
 /// A step in a ring's folder. All but `Format` and `Sign` change names alone, and what they change outlives a stop once a `Sync`
 /// stands behind them.
-#[derive(Clone, Copy, Debug, PartialEq, Eq)]
+#[derive(Clone, Copy, PartialEq, Eq)]
 pub enum FolderStep {
     /// There is no file `node-I.crj.new` then.
     Clear(NodeNo),

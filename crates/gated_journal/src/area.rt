@@ -44,7 +44,7 @@ pub(crate) fn leaves_closed(area: &Chosen, gate_at: u64) -> bool
 }
 
 // One of the two areas.
-#[derive(Clone, Copy, Debug, PartialEq, Eq)]
+#[derive(Clone, Copy, PartialEq, Eq)]
 enum Area {
     A,
     B,

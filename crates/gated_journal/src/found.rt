@@ -5,7 +5,7 @@ use ring_records::{Input, SummaryReader};
 use std::alloc::Global;
 
 /// What stands next.
-#[derive(Clone, Copy, Debug, PartialEq, Eq)]
+#[derive(Clone, Copy, PartialEq, Eq)]
 pub(crate) enum Stage {
     Head,
     /// So many bytes of the snapshot.

@@ -5,7 +5,7 @@ ghost use Rattle.gated_journal.specs.Newer.{IsRead, IsNewer};
 use crate::layout::{LAYOUT, is_layout};
 
 /// The first two bytes of an area.
-#[derive(Clone, Copy, Debug, PartialEq, Eq)]
+#[derive(Clone, Copy, PartialEq, Eq)]
 pub struct AreaStart {
     pub gate: u8,
     pub layout: u8,

@@ -6,7 +6,7 @@ ghost use Rattle.line_words.specs.Texts.{IsFront};
 use std::io::Write;
 
 /// The writer failed, or took nothing.
-#[derive(Clone, Copy, Debug, PartialEq, Eq)]
+#[derive(Clone, Copy, PartialEq, Eq)]
 pub struct WriteFault;
 
 /// Writes the bytes whole, by at most as many writes. Refused where a write fails or takes nothing: a front of the

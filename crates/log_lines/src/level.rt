@@ -1,7 +1,7 @@
 //! How grave a line is.
 
 /// How grave a line is, of the eight levels of syslog.
-#[derive(Clone, Copy, Debug, PartialEq, Eq)]
+#[derive(Clone, Copy, PartialEq, Eq)]
 pub enum Level {
     /// 3: something was refused, or has failed.
     Error,

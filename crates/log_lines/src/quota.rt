@@ -8,7 +8,7 @@ pub const MOST_LINES: u64 = 1_024;
 
 /// How many more lines may be told in this second, how many were left out in it, and how many before it of which nothing is
 /// told yet; these two stay at the greatest number.
-#[derive(Clone, Copy, Debug, PartialEq, Eq)]
+#[derive(Clone, Copy, PartialEq, Eq)]
 pub struct Quota {
     pub free: u64,
     pub left_out: u64,

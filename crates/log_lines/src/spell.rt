@@ -6,14 +6,14 @@ ghost use Rattle.log_lines.specs.Spells.{may_begin, spell_after, turn_of};
 pub const QUIET: u64 = 60;
 
 /// Whether a trouble is told as there, and when it was last told so, in seconds of one clock.
-#[derive(Clone, Copy, Debug, PartialEq, Eq)]
+#[derive(Clone, Copy, PartialEq, Eq)]
 pub struct Spell {
     pub is_told: bool,
     pub last: Option<u64>,
 }
 
 /// What is to be told of a trouble.
-#[derive(Clone, Copy, Debug, PartialEq, Eq)]
+#[derive(Clone, Copy, PartialEq, Eq)]
 pub enum Turn {
     /// That it is there.
     Begins,

@@ -8,7 +8,7 @@ use std::marker::Model;
 
 /// The link from the predecessor, seen as the number that is expected on it: how many messages were taken, as they
 /// are numbered from 0.
-#[derive(Clone, Copy, Debug, PartialEq, Eq)]
+#[derive(Clone, Copy, PartialEq, Eq)]
 pub struct Inlink {
     expected: u64,
 }

@@ -13,7 +13,7 @@ use std::alloc::{AllocError, Global};
 pub type Run = Vec<(NodeNo, Input)>;
 
 /// Why histories cannot be told as one run.
-#[derive(Clone, Copy, Debug, PartialEq, Eq)]
+#[derive(Clone, Copy, PartialEq, Eq)]
 pub enum AuditFault {
     /// They are not those of 2 to 16 nodes.
     Shape,

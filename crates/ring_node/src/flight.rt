@@ -21,7 +21,7 @@ use ring_records::Refusal;
 use std::alloc::AllocError;
 
 /// What a node makes durable at once.
-#[derive(Clone, Copy, Debug, PartialEq, Eq)]
+#[derive(Clone, Copy, PartialEq, Eq)]
 pub enum Flight {
     /// The first inputs that wait, at most 64.
     Batch,

@@ -8,7 +8,7 @@ use ring_records::{Packet, Request};
 use std::marker::Model;
 
 /// What comes to pass at an inbox.
-#[derive(Clone, Copy, Debug, PartialEq, Eq)]
+#[derive(Clone, Copy, PartialEq, Eq)]
 pub enum Entry {
     /// A letter with this packet was heard.
     Heard(Packet),

@@ -14,7 +14,7 @@ const IN_SNAPSHOT: u64 = 27;
 
 /// The greatest credit that was heard, and the last one that the node was told. Each credit that a node accepts is an
 /// input, to be written and synced, and nobody waits for it; so the node is told of many at once.
-#[derive(Clone, Copy, Debug, PartialEq, Eq)]
+#[derive(Clone, Copy, PartialEq, Eq)]
 pub struct Credits {
     pub heard: u64,
     pub told: u64,

@@ -6,7 +6,7 @@ ghost use Rattle.ring_post.specs.Asks.{is_take};
 use ring_records::{Msg, Request};
 
 /// The message that an inbox has at hand: the last one that it heard, until the node is asked for it.
-#[derive(Clone, Copy, Debug, PartialEq, Eq)]
+#[derive(Clone, Copy, PartialEq, Eq)]
 pub enum Hand {
     /// None.
     Empty,

@@ -8,7 +8,7 @@ use ring_records::{NodeNo, Packet, Refusal, Reply, Request};
 use std::marker::Model;
 
 /// A node's place in a ring of so many nodes, 16 at most.
-#[derive(Clone, Copy, Debug, PartialEq, Eq)]
+#[derive(Clone, Copy, PartialEq, Eq)]
 pub struct RingPlace {
     pub node: NodeNo,
     pub nodes: u8,

@@ -6,7 +6,7 @@ pub const PROMPT: u32 = 8;
 
 /// An inbox takes the first messages after a rest as they come. Where they go on coming they gather between two rounds, so
 /// that one batch makes many of them durable, and the disk is left to the Stands, for which clients wait.
-#[derive(Clone, Copy, Debug, PartialEq, Eq)]
+#[derive(Clone, Copy, PartialEq, Eq)]
 pub struct Pace {
     pub rounds: u32,
     pub leaves_some: bool,

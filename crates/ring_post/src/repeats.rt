@@ -9,7 +9,7 @@ pub const LONGEST_PAUSE: u64 = 6_400;
 
 /// The credit that was seen last, when messages were sent again or the credit was seen to rise, in milliseconds of some clock, and
 /// how long they rest from then on.
-#[derive(Clone, Copy, Debug, PartialEq, Eq)]
+#[derive(Clone, Copy, PartialEq, Eq)]
 pub struct Repeats {
     pub seen: u64,
     pub since: Option<u64>,

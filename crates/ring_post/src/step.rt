@@ -2,7 +2,7 @@
 use ring_records::Request;
 
 /// What an inbox does next about the message at hand.
-#[derive(Clone, Copy, Debug, PartialEq, Eq)]
+#[derive(Clone, Copy, PartialEq, Eq)]
 pub enum Step {
     /// It hears on: no message is at hand.
     Rest,

@@ -6,7 +6,7 @@ use crate::LAYOUT;
 
 /// What the area of a journal that is in use stands for beside its frames: the node's first inputs, and what is written in
 /// their place.
-#[derive(Clone, Copy, Debug, PartialEq, Eq)]
+#[derive(Clone, Copy, PartialEq, Eq)]
 pub struct Base {
     /// The area's layout.
     pub layout: u8,

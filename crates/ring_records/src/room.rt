@@ -1,5 +1,5 @@
 /// What room is told from, beside the capacity.
-#[derive(Clone, Copy, Debug, PartialEq, Eq)]
+#[derive(Clone, Copy, PartialEq, Eq)]
 pub struct Room {
     /// The layout of the area in use.
     pub layout: u8,

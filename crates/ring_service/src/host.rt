@@ -6,7 +6,7 @@ ghost use Rattle.ring_service.specs.Hosts.{IsHost, inner_of};
 use std::net::{IpAddr, Ipv6Addr};
 
 /// An address of this host, or a name that stands for some.
-#[derive(Clone, Copy, Debug, PartialEq, Eq)]
+#[derive(Clone, Copy, PartialEq, Eq)]
 pub enum Host<'a> {
     Address(IpAddr),
     /// 1 to 253 letters, digits, `-`, `_` and dots, with a letter first behind the last dot.

@@ -14,7 +14,7 @@ use std::alloc::Global;
 use toml::{Table, Value};
 
 /// What a ring is to be.
-#[derive(Debug, Drop)]
+#[derive(Drop)]
 pub struct Settings {
     /// How many nodes it has, 2 to 16.
     pub nodes: u8,

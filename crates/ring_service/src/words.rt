@@ -21,7 +21,7 @@ use std::alloc::Global;
 pub const VERSION: &str = "0.1.0";
 
 /// What the words ask.
-#[derive(Clone, Copy, Debug, PartialEq, Eq)]
+#[derive(Clone, Copy, PartialEq, Eq)]
 pub struct Words<'a> {
     /// The path of the settings; `-` is standard input.
     pub settings: &'a str,

@@ -15,7 +15,7 @@ use std::io;
 use std::io::Write;
 
 /// What an audit says of the nodes of a ring.
-#[derive(Clone, Copy, Debug, PartialEq, Eq)]
+#[derive(Clone, Copy, PartialEq, Eq)]
 pub(crate) enum Verdict {
     /// All that they hold can be told as one run of so many inputs.
     Whole(u64),

@@ -14,7 +14,7 @@ use std::{fmt, io};
 pub(crate) const CHANCE: &str = "/dev/urandom";
 
 /// Which file of a node the system was asked for.
-#[derive(Clone, Copy, Debug, PartialEq, Eq)]
+#[derive(Clone, Copy, PartialEq, Eq)]
 pub enum Place {
     /// The folder.
     Folder,
@@ -45,7 +45,7 @@ impl Place {
 }
 
 /// What is told beside a refusal.
-#[derive(Clone, Copy, Debug, PartialEq, Eq)]
+#[derive(Clone, Copy, PartialEq, Eq)]
 pub enum FileFault {
     /// The system refused a call of this file so.
     Fault(Place, SystemFault),
@@ -96,7 +96,7 @@ fn print_found<C: Clock, E: Write>(
 /// Why a node was not opened: the refusal of its journal or its desk, 15 with one failure where the system refused its
 /// file, and 8. Where the system refused something, what that was and what it answered; where the file is there and not
 /// this node's, that it is `invalid data`, or of a newer layout.
-#[derive(Clone, Copy, Debug)]
+#[derive(Clone, Copy)]
 pub struct Unopened {
     pub refusal: Refusal,
     pub told: Option<FileFault>,

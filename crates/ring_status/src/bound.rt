@@ -3,7 +3,7 @@ ghost use Rattle.std.specs.Prelude.{◌≡◌};
 ghost use Rattle.ring_status.specs.Bounds.{bounds, micros_of, seconds_text};
 
 /// A bound by which batches and checkpoints are counted.
-#[derive(Clone, Copy, Debug, PartialEq, Eq)]
+#[derive(Clone, Copy, PartialEq, Eq)]
 pub enum Bound {
     Micros200,
     Millis1,

@@ -6,7 +6,7 @@ ghost use Rattle.ring_status.specs.Counts.{micros_of, more, nanos_passed, second
 use std::time::{Duration, Instant};
 
 /// What the threads of a node have counted since the start, at one moment.
-#[derive(Clone, Copy, Debug, PartialEq, Eq)]
+#[derive(Clone, Copy, PartialEq, Eq)]
 pub struct Counts {
     /// How many batches are durable.
     pub batches: u64,
@@ -32,7 +32,7 @@ pub struct Counts {
 
 /// A batch that is durable, or a checkpoint: how many syncs it took, how many leaders it made known, and since when it is durable,
 /// where there was a clock.
-#[derive(Clone, Copy, Debug, PartialEq, Eq)]
+#[derive(Clone, Copy, PartialEq, Eq)]
 pub struct Landing {
     pub is_checkpoint: bool,
     pub syncs: u64,

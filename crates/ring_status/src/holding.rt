@@ -6,7 +6,7 @@ use crate::values::Condition;
 use ring_records::{STANDS, Shown};
 
 /// What a node holds of what it may hold, at one moment.
-#[derive(Clone, Copy, Debug, PartialEq, Eq)]
+#[derive(Clone, Copy, PartialEq, Eq)]
 pub struct Holding {
     /// Its inputs, and how far its links are, since its first start.
     pub shown: Shown,

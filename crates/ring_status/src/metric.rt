@@ -5,7 +5,7 @@ ghost use Rattle.ring_status.specs.Metrics.{help_text, kind_text, metrics, name_
 use crate::values::{Condition, NodeStatus};
 
 /// What is measured of a node, each with a name, a line that tells what it is, and a kind.
-#[derive(Clone, Copy, Debug, PartialEq, Eq)]
+#[derive(Clone, Copy, PartialEq, Eq)]
 pub enum Metric {
     Failed,
     Hangs,

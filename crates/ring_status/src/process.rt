@@ -6,7 +6,7 @@ use crate::target::cut_at;
 use line_words::read_number;
 
 /// What the system says of the process, as far as it says so.
-#[derive(Clone, Copy, Debug, PartialEq, Eq)]
+#[derive(Clone, Copy, PartialEq, Eq)]
 pub struct Process {
     /// How many bytes of its memory are resident.
     pub resident_bytes: Option<u64>,

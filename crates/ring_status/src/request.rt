@@ -15,7 +15,7 @@ pub const HEAD_BYTES: usize = 8_192;
 const FIELDS: usize = 64;
 
 /// How it is asked.
-#[derive(Clone, Copy, Debug, PartialEq, Eq)]
+#[derive(Clone, Copy, PartialEq, Eq)]
 pub enum Method {
     /// For the whole answer.
     Get,
@@ -24,7 +24,7 @@ pub enum Method {
 }
 
 /// What is asked, and how.
-#[derive(Clone, Copy, Debug, PartialEq, Eq)]
+#[derive(Clone, Copy, PartialEq, Eq)]
 pub struct HttpRequest {
     pub method: Method,
     pub target: Target,

@@ -7,7 +7,7 @@ use line_words::{behind, read_group, read_number};
 use ring_records::{GroupName, NodeNo};
 
 /// What is asked.
-#[derive(Clone, Copy, Debug, PartialEq, Eq)]
+#[derive(Clone, Copy, PartialEq, Eq)]
 pub enum Target {
     /// A page of the ring for people.
     Page,

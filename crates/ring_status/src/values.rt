@@ -5,7 +5,7 @@ use crate::holding::Holding;
 use ring_records::NodeNo;
 
 /// Whether a node takes Stands and messages.
-#[derive(Clone, Copy, Debug, PartialEq, Eq)]
+#[derive(Clone, Copy, PartialEq, Eq)]
 pub enum Condition {
     /// It takes them.
     Well,
@@ -20,7 +20,7 @@ pub enum Condition {
 }
 
 /// How often clients were told a refusal.
-#[derive(Clone, Copy, Debug, PartialEq, Eq)]
+#[derive(Clone, Copy, PartialEq, Eq)]
 pub struct RefusalCount {
     /// The refusal's number, 1 to 28.
     pub number: u8,
@@ -28,14 +28,14 @@ pub struct RefusalCount {
 }
 
 /// How many batches and checkpoints took no longer than a bound.
-#[derive(Clone, Copy, Debug, PartialEq, Eq)]
+#[derive(Clone, Copy, PartialEq, Eq)]
 pub struct WithinCount {
     pub bound: Bound,
     pub count: u64,
 }
 
 /// How long the batches and the checkpoints of a node took, those that failed too.
-#[derive(Debug, Drop)]
+#[derive(Drop)]
 pub struct CommitTimes {
     /// How many took no longer than each of some bounds, which rise.
     pub within: Vec<WithinCount>,
@@ -46,7 +46,7 @@ pub struct CommitTimes {
 }
 
 /// Which node it is, and where clients come to it.
-#[derive(Clone, Copy, Debug, PartialEq, Eq)]
+#[derive(Clone, Copy, PartialEq, Eq)]
 pub struct Place {
     pub node: NodeNo,
     /// The port of its doors.
@@ -56,14 +56,14 @@ pub struct Place {
 }
 
 /// How many messages wait in the letterbox of a node.
-#[derive(Clone, Copy, Debug, PartialEq, Eq)]
+#[derive(Clone, Copy, PartialEq, Eq)]
 pub struct Letters {
     pub node: NodeNo,
     pub count: u64,
 }
 
 /// What is told of a node.
-#[derive(Debug, Drop)]
+#[derive(Drop)]
 pub struct NodeStatus {
     pub place: Place,
     pub condition: Condition,
@@ -85,7 +85,7 @@ pub struct NodeStatus {
 }
 
 /// What is told of a ring.
-#[derive(Clone, Copy, Debug)]
+#[derive(Clone, Copy)]
 pub struct RingStatus<'a> {
     /// The version of the program.
     pub version: &'a str,

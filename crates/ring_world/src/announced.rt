@@ -2,7 +2,7 @@
 use ring_records::{Candidate, Key, NodeNo};
 
 /// A leader that a released reply named.
-#[derive(Clone, Copy, Debug, PartialEq, Eq)]
+#[derive(Clone, Copy, PartialEq, Eq)]
 pub struct Announced {
     /// The node that gave the reply.
     pub node: NodeNo,

@@ -3,7 +3,7 @@ use disk_model::Tear;
 use ring_records::{NodeNo, Request};
 
 /// An event of a ring.
-#[derive(Clone, Copy, Debug, PartialEq, Eq)]
+#[derive(Clone, Copy, PartialEq, Eq)]
 pub enum Event {
     /// A client, or a neighbour whose packet arrives, asks a node.
     Submit(NodeNo, Request),

@@ -8,7 +8,7 @@ use std::alloc::Global;
 use std::io::{BufRead, Write};
 
 /// Why a session ended before its end.
-#[derive(Clone, Copy, Debug, PartialEq, Eq)]
+#[derive(Clone, Copy, PartialEq, Eq)]
 pub enum SessionFault {
     /// The reader failed.
     Read,
