@@ -18,6 +18,8 @@ import urllib.error
 import urllib.request
 from collections.abc import Callable, Iterator
 
+from refuser import NoCompiler, Refuser, build
+
 ROOT = pathlib.Path(__file__).resolve().parent.parent
 RINGD, RINGCTL = (os.path.realpath(os.environ.get(name.upper()) or ROOT / "bin" / name) for name in ("ringd", "ringctl"))
 PATIENCE = 60.0
@@ -272,3 +274,23 @@ class RingTest(unittest.TestCase):
         """So many sessions at a node, each of one question of a group that nobody stood for."""
         for _ in range(count):
             self.assertEqual("none", ring.asks(node, "who nobody 4"))
+
+
+class RefusedTest(RingTest):
+    """A test of rings of which calls of the system fail, or begin late. It is skipped where no compiler is."""
+    library: str
+
+    @classmethod
+    def setUpClass(cls) -> None:
+        folder = tempfile.mkdtemp(prefix="refuse-")
+        cls.addClassCleanup(shutil.rmtree, folder, True)
+        try:
+            cls.library = build(folder)
+        except NoCompiler as fault:
+            raise unittest.SkipTest(str(fault)) from None
+
+    def refuser(self) -> Refuser:
+        """What orders the calls of one ring."""
+        folder = tempfile.mkdtemp(prefix="orders-")
+        self.addCleanup(shutil.rmtree, folder, True)
+        return Refuser(folder, self.library)

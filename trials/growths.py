@@ -1,7 +1,7 @@
 #!/usr/bin/env python3
 """growths.py [--programs FOLDER] [--tests FOLDER] [--every N] [--first N] [PART..]
 
-Refuses a growth of the programs, by trials/refuse.c: growth 1, 2, 3 and so on, until a run has none that is refused. The PARTs, all of
+Refuses a growth of the programs, by tests/refuse.c: growth 1, 2, 3 and so on, until a run has none that is refused. The PARTs, all of
 them where none is named:
 
   tests    the tests named `refused_growths` or `a_refused_growth..`, as `rt test` has left them: each growth alone. They pass
@@ -30,7 +30,7 @@ import sys
 import tempfile
 from collections import Counter
 
-from refusing import ELECTIONS, SPARED, Refusal, Refuser, Ring, filled
+from refusing import ELECTIONS, SPARED, Refusal, Ring, filled, refuser_in
 
 HERE = os.path.dirname(os.path.abspath(__file__))
 ROOT = os.path.dirname(HERE)
@@ -46,7 +46,7 @@ GROWN = ("ring_tests", "server_tests")
 class Trial:
     def __init__(self, words: argparse.Namespace, folder: str) -> None:
         self.words, self.folder = words, folder
-        self.refuser = Refuser(folder)
+        self.refuser = refuser_in(folder)
         self.growths = self.faults = 0
 
     def fault(self, text: str) -> None:
