@@ -4,6 +4,7 @@ The programs are those of RINGD and RINGCTL, or bin/ringd and bin/ringctl. Each 
 sync takes is for the machine to say."""
 
 import contextlib
+import json
 import os
 import pathlib
 import random
@@ -17,6 +18,7 @@ import unittest
 import urllib.error
 import urllib.request
 from collections.abc import Callable, Iterator
+from typing import Any
 
 from refuser import NoCompiler, Refuser, build
 
@@ -238,6 +240,20 @@ class Ring:
         except urllib.error.HTTPError as fault:
             with fault:
                 return fault.code, fault.read().decode()
+
+    def answer_to(self, head: bytes) -> bytes:
+        """All that an operator is answered to these bytes, up to the end of the connection."""
+        with Client(self.status, self.is_over) as operator:
+            operator.send(head)
+            return operator.rest().encode()
+
+    def states(self) -> dict[str, Any]:
+        """What `/status` tells."""
+        return json.loads(self.get("/status")[1])
+
+    def state(self, node: int) -> dict[str, Any]:
+        """What it tells of a node."""
+        return self.states()["nodes"][node - 1]
 
     def tells(self, target: str, text: str) -> bool:
         """Whether an operator is told this text in the end."""
