@@ -73,21 +73,3 @@ pub fn is_ended(stream: &TcpStream) -> bool {
         Err(_) => false,
     }
 }
-
-/// Whether these bytes come, and then the end.
-pub fn reads_to_the_end(stream: &TcpStream, text: &[u8]) -> bool {
-    let mut reader = stream;
-    let mut bytes = [0u8; 64];
-    let mut len = 0usize;
-    for _ in 0..64 {
-        if len >= 64 {
-            return false;
-        }
-        match reader.read(&mut bytes[len..]) {
-            Ok(0) => return &bytes[..len] == text,
-            Ok(count) => len = len.saturating_add(count),
-            Err(_) => return false,
-        }
-    }
-    false
-}

@@ -11,17 +11,11 @@ mod board;
 #[cfg(test)]
 mod calls;
 #[cfg(test)]
-mod checkpoints;
-#[cfg(test)]
 mod clients;
 #[cfg(test)]
 mod devices;
 #[cfg(test)]
-mod doors;
-#[cfg(test)]
 mod fake;
-#[cfg(test)]
-mod full;
 #[cfg(test)]
 mod held;
 #[cfg(test)]
@@ -41,8 +35,6 @@ mod logs;
 #[cfg(test)]
 mod news;
 #[cfg(test)]
-mod numbers;
-#[cfg(test)]
 mod plans;
 #[cfg(test)]
 mod programs;
@@ -57,15 +49,11 @@ mod rows;
 #[cfg(test)]
 mod services;
 #[cfg(test)]
-mod sessions_ends;
-#[cfg(test)]
 mod settings;
 #[cfg(test)]
 mod silent;
 #[cfg(test)]
 mod slow;
-#[cfg(test)]
-mod starts;
 #[cfg(test)]
 mod station;
 #[cfg(test)]

@@ -1,9 +1,7 @@
-// What is told of nodes while a ring serves, and what reaches their successors.
-use crate::clients::{answers_at_last, connect};
+// What is told of nodes while a ring serves.
 use crate::devices::Served;
 use crate::programs::{Ring, Scenario, beside, runs};
-use crate::steps::runs_anew;
-use crate::visits::{Say, Visit, asks};
+use crate::visits::Visit;
 use std::alloc::AllocGlobal;
 use std::fs::File;
 use std::net::{Net, TcpListener, TcpStream};
@@ -116,86 +114,4 @@ const FAIL_STOP: Scenario = Scenario {
 #[test]
 fn the_first_failure_is_the_end(rt: HostRuntime) {
     runs(&rt, &FAIL_STOP);
-}
-
-/// Right at the start a Stand, behind those of before, is elected.
-const ELECTED: &[Say] = &[Say::AtLast(b"latest red\n", b"term 301 leader 1 10")];
-
-const STOOD_BEFORE: Scenario = Scenario {
-    ring: Ring::Three(Served {
-        port: 7186,
-        capacity: 65_536,
-        sessions: Some(1),
-        stood: 300,
-        fails_after: u64::MAX,
-        fail_stop: false,
-        verbose: false,
-        status: None,
-    }),
-    visits: [
-        &[
-            Visit::Asks(7187, b"stand red 301 10\n", b"stood"),
-            Visit::Says(7189, ELECTED),
-            Visit::Asks(7188, b"who blue 1\n", b"none"),
-        ],
-        &[],
-        &[],
-    ],
-    status: 0,
-    out: b"",
-    err: Some(b""),
-};
-
-#[test]
-fn the_window_of_a_start_goes_first(rt: HostRuntime) {
-    runs(&rt, &STOOD_BEFORE);
-}
-
-/// Whether the node at this port, of a ring behind 7190, leads this term of its group at last.
-fn is_led<R: AllocGlobal + Clock + Net<Stream = TcpStream>>(rt: &R, port: u16, term: u32) -> bool {
-    let (Ok(line), Ok(text), Some(stream)) = (
-        format!(in rt.alloc(); "latest g{port}\n"),
-        format!(in rt.alloc(); "term {term} leader {} 10", port.saturating_sub(7190)),
-        connect(rt, port),
-    ) else {
-        return false;
-    };
-    answers_at_last(rt, &stream, line.as_bytes(), text.as_bytes())
-}
-
-/// So many sessions, each of which stands for one term more, and one that waits for the last leader.
-pub fn short_sessions<R: AllocGlobal + Clock + Net<Stream = TcpStream>>(
-    rt: &R,
-    port: u16,
-    count: u32,
-) -> bool {
-    for term in 1..=count {
-        let Ok(line) = format!(in rt.alloc(); "stand g{port} {term} 10\n") else {
-            return false;
-        };
-        if !asks(rt, port, line.as_bytes(), b"stood") {
-            return false;
-        }
-    }
-    is_led(rt, port, count)
-}
-
-const SHORT: Scenario = Scenario {
-    ring: Ring::Program(
-        &["ringd", "--serve", "41", "--doors", "2"],
-        b"nodes = 2\ndir = \"short\"\nport = 7191\n",
-    ),
-    visits: [
-        &[Visit::IsShort(7191, 40)],
-        &[Visit::IsShort(7192, 40)],
-        &[],
-    ],
-    status: 0,
-    out: b"",
-    err: Some(b""),
-};
-
-#[test]
-fn short_sessions_beside_each_other(rt: HostRuntime) {
-    runs_anew(&rt, "short", &SHORT);
 }
