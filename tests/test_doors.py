@@ -2,57 +2,12 @@
 
 import time
 import unittest
-from collections.abc import Callable
 
-from programs import Client, Ring, RingTest, at_last, together
-
-# How often a visit is made at most that a late machine may spoil, and for how many seconds a client may be silent at the last free door.
-TRIES = 20
-SHORT = 1.0
+from late import HastyClient, Late, LateTest
+from programs import Client, Ring, at_last, together
 
 
-class Late(Exception):
-    """A client was left that had been silent for as long as it may be."""
-
-
-class HastyClient(Client):
-    """A client that is left once it is silent for a second: how long it was at most is known here."""
-
-    def __init__(self, ring: Ring, node: int = 1) -> None:
-        self.since = time.monotonic()
-        super().__init__(ring.port_of(node), ring.is_over)
-
-    def was_silent(self) -> bool:
-        """Whether it may have been silent for a second."""
-        return time.monotonic() - self.since >= SHORT
-
-    def ask(self, line: str) -> str:
-        """Raises `Late` where the session is over and the client may have been silent for a second."""
-        now = time.monotonic()
-        answer = super().ask(line)
-        if answer:
-            self.since = now
-        elif self.was_silent():
-            raise Late
-        return answer
-
-
-class DoorsTest(RingTest):
-    def visit(self, visit: Callable[[], None]) -> None:
-        """Makes the visit, and once more where the machine was late."""
-        for _ in range(TRIES):
-            try:
-                visit()
-                return
-            except Late:
-                pass
-        self.fail("the machine is late each time")
-
-    def finish_all(self, ring: Ring, sessions: int) -> None:
-        """Has each node the sessions that it has not had yet, of so many."""
-        for node in range(1, ring.nodes + 1):
-            self.finish(ring, node, sessions - ring.state(node)["sessions"]["begun"])
-
+class DoorsTest(LateTest):
     def test_three_clients_of_one_node(self) -> None:
         with self.serves("--serve", "3", "--doors", "3", nodes=2) as ring:
             with ring.client() as one, ring.client() as two, ring.client() as three:
@@ -74,20 +29,16 @@ class DoorsTest(RingTest):
             together(lambda: stands(1), lambda: stands(2))
 
     def test_silent_clients(self) -> None:
-        def is_left(node: int) -> None:
-            with ring.client(node) as client:
-                self.each(client, ("latest red", "none"))
-                self.assertEqual("", client.rest())
-
-        with self.serves("--serve", "1", "--idle", "1", nodes=2) as ring:
-            together(lambda: is_left(1), lambda: is_left(2))
+        with self.serves("--serve", "20", "--idle", "1", nodes=2, has_status=True) as ring:
+            together(*(lambda node=node: self.visit(lambda: self.is_left_silent(ring, node)) for node in (1, 2)))
+            self.finish_all(ring, 20)
 
     def is_left_behind_ten(self, ring: Ring) -> None:
         with HastyClient(ring) as client:
             self.each(client, *10 * [("latest red", "none")], ("latest red", ""))
 
-    def is_left_silent(self, ring: Ring) -> None:
-        with HastyClient(ring) as client:
+    def is_left_silent(self, ring: Ring, node: int = 1) -> None:
+        with HastyClient(ring, node) as client:
             self.each(client, ("latest red", "none"))
             self.assertEqual("", client.rest())
 
@@ -144,13 +95,9 @@ class DoorsTest(RingTest):
 
     def is_left_refused(self, ring: Ring, node: int) -> None:
         """A client that sends an empty line every 0.4 seconds, which is refused, is left as one that is silent."""
-        with ring.client(node) as client:
-            answers = [client.ask("")]
-            while answers[-1] and len(answers) < 25:
-                time.sleep(0.4)
-                answers.append(client.ask(""))
-            self.assertEqual({"no 25 line"}, set(answers[:-1]))
-            self.assertEqual("", answers[-1])
+        with HastyClient(ring, node) as client:
+            self.each(client, ("", "no 25 line"))
+            self.assertTrue(at_last(lambda: Client.ask(client, "") != "no 25 line", seconds=10, pause=0.4))
 
     def is_kept_asking(self, ring: Ring, node: int) -> None:
         """One that asks something as often is not left."""
@@ -162,7 +109,7 @@ class DoorsTest(RingTest):
 
     def test_a_client_that_is_refused_alone(self) -> None:
         def asks(node: int) -> None:
-            self.is_left_refused(ring, node)
+            self.visit(lambda: self.is_left_refused(ring, node))
             self.visit(lambda: self.is_kept_asking(ring, node))
 
         with self.serves("--serve", "30", "--idle", "1", nodes=2, has_status=True) as ring:

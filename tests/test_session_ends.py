@@ -5,16 +5,17 @@ import socket
 import time
 import unittest
 
-from programs import Ring, RingTest, together
+from late import HastyClient, LateTest
+from programs import Ring, together
 
 # What a page may have a browser send.
 POST = b"POST /x HTTP/1.1\r\nContent-Length: 18\r\n\r\nstand red 8 5\nbye\n"
 
 
-class SessionEndsTest(RingTest):
+class SessionEndsTest(LateTest):
     def is_left_within_a_line(self, ring: Ring, node: int) -> None:
         """A client that is served, and then sends a byte every 0.4 seconds, is left before its line is whole."""
-        with ring.client(node) as client:
+        with HastyClient(ring, node) as client:
             self.each(client, ("who red 1", "none"))
             for byte in b"late":
                 client.send(bytes([byte]))
@@ -23,8 +24,9 @@ class SessionEndsTest(RingTest):
             self.assertEqual("", client.rest())
 
     def test_a_slow_line(self) -> None:
-        with self.serves("--serve", "1", "--idle", "1", nodes=2) as ring:
-            together(lambda: self.is_left_within_a_line(ring, 1), lambda: self.is_left_within_a_line(ring, 2))
+        with self.serves("--serve", "20", "--idle", "1", nodes=2, has_status=True) as ring:
+            together(*(lambda node=node: self.visit(lambda: self.is_left_within_a_line(ring, node)) for node in (1, 2)))
+            self.finish_all(ring, 20)
 
     def test_what_a_browser_posts(self) -> None:
         with self.serves("--serve", "6", nodes=2) as ring:
