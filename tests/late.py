@@ -15,7 +15,9 @@ class Late(Exception):
 
 
 class HastyClient(Client):
-    """A client that is left once it is silent for a second: how long it was at most is known here."""
+    """A client that is left once it is silent for a second, unless it `is_kept`: how long it was at most is known here."""
+
+    is_kept = False
 
     def __init__(self, ring: Ring, node: int = 1) -> None:
         self.since = time.monotonic()
@@ -23,7 +25,7 @@ class HastyClient(Client):
 
     def was_silent(self) -> bool:
         """Whether it may have been silent for a second."""
-        return time.monotonic() - self.since >= SILENT
+        return not self.is_kept and time.monotonic() - self.since >= SILENT
 
     def ask(self, line: str) -> str:
         """Raises `Late` where the session is over and the client may have been silent for a second."""

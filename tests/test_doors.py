@@ -61,6 +61,7 @@ class DoorsTest(LateTest):
                 self.visit(lambda: self.is_served_shortly(ring))
                 if last.was_silent():
                     raise Late
+                last.is_kept = True
                 # Longer than it may have been silent before, and than a read waits that began then.
                 time.sleep(3.5)
                 self.each(last, *12 * [("latest red", "none")], ("bye", "bye"))
@@ -83,15 +84,16 @@ class DoorsTest(LateTest):
             self.finish_all(ring, 60)
 
     def test_clients_that_drip_behind_their_session(self) -> None:
-        with self.serves("--serve", "1", nodes=2) as ring:
-            with ring.client() as client:
-                self.each(client, ("bye", "bye"))
-                with self.assertRaises(ConnectionError):
-                    # A second and 65,536 bytes are all that is read of them.
-                    for _ in range(10_000):
-                        client.stream.sendall(b"a")
-                        time.sleep(0.001)
-            self.finish(ring, 2)
+        """What a client still sends is read for a second and up to 65,536 bytes, and not as long as it comes."""
+        with self.serves("--serve", "3", nodes=2) as ring:
+            for _ in range(3):
+                with ring.client() as client:
+                    self.each(client, ("bye", "bye"))
+                    with self.assertRaises(ConnectionError):
+                        for _ in range(30_000):
+                            client.stream.sendall(b"a")
+                            time.sleep(0.0001)
+            self.finish(ring, 2, 3)
 
     def is_left_refused(self, ring: Ring, node: int) -> None:
         """A client that sends an empty line every 0.4 seconds, which is refused, is left as one that is silent."""

@@ -93,7 +93,8 @@ class OperatorsTest(RingTest):
                     waits()
                 else:
                     self.fail("one more than may wait is never refused")
-            self.assertTrue(at_last(lambda: self.may_wait(ring), pause=0.1))
+            # Well before the time of those that waited would have been over.
+            self.assertTrue(at_last(lambda: self.may_wait(ring), seconds=20, pause=0.1))
             self.finish(ring, 1)
             self.finish(ring, 2)
 
