@@ -15,9 +15,9 @@ mod clients;
 #[cfg(test)]
 mod devices;
 #[cfg(test)]
-mod fake;
-#[cfg(test)]
 mod held;
+#[cfg(test)]
+mod hosts;
 #[cfg(test)]
 mod http;
 #[cfg(test)]
@@ -27,19 +27,11 @@ mod hub_clients;
 #[cfg(test)]
 mod hubs;
 #[cfg(test)]
-mod identities;
-#[cfg(test)]
 mod letting_go;
 #[cfg(test)]
-mod logs;
-#[cfg(test)]
-mod news;
-#[cfg(test)]
-mod plans;
+mod lines;
 #[cfg(test)]
 mod programs;
-#[cfg(test)]
-mod refusals;
 #[cfg(test)]
 mod ring;
 #[cfg(test)]
@@ -57,16 +49,10 @@ mod slow;
 #[cfg(test)]
 mod station;
 #[cfg(test)]
-mod status;
-#[cfg(test)]
 mod steps;
 #[cfg(test)]
 mod tallies;
 #[cfg(test)]
 mod together;
-#[cfg(test)]
-mod unsynced;
-#[cfg(test)]
-mod verbose;
 #[cfg(test)]
 mod visits;
