@@ -1,5 +1,4 @@
-//! The tests of a service: of a board, of a hub and of rounds, by calls and with clients beside a flusher in threads of their own;
-//! and of `ringd` over readers and writers, with clients on 127.0.0.1.
+//! The tests of a service: of a board, of a hub and of rounds, by calls and with clients beside a flusher in threads of their own.
 #![tactic(auto)]
 
 #[cfg(test)]
@@ -11,15 +10,9 @@ mod board;
 #[cfg(test)]
 mod calls;
 #[cfg(test)]
-mod clients;
-#[cfg(test)]
-mod devices;
-#[cfg(test)]
 mod held;
 #[cfg(test)]
 mod hosts;
-#[cfg(test)]
-mod http;
 #[cfg(test)]
 mod hub;
 #[cfg(test)]
@@ -31,8 +24,6 @@ mod letting_go;
 #[cfg(test)]
 mod lines;
 #[cfg(test)]
-mod programs;
-#[cfg(test)]
 mod ring;
 #[cfg(test)]
 mod rounds;
@@ -43,16 +34,10 @@ mod services;
 #[cfg(test)]
 mod settings;
 #[cfg(test)]
-mod silent;
-#[cfg(test)]
 mod slow;
 #[cfg(test)]
 mod station;
 #[cfg(test)]
-mod steps;
-#[cfg(test)]
 mod tallies;
 #[cfg(test)]
 mod together;
-#[cfg(test)]
-mod visits;
