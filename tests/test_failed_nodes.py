@@ -5,7 +5,7 @@ import errno
 import time
 import unittest
 
-from programs import Client, RefusedTest, Ring
+from programs import Client, RefusedTest, Ring, at_last
 from refuser import DEVICE, Refusal, Refuser
 
 NODE, NAME = 2, "node-2.crj"
@@ -81,14 +81,19 @@ class FailedNodesTest(RefusedTest):
                 ring.end()
             self.assertEqual(self.told(ring, refuser), ring.told())
 
+    def tells_of(self, ring: Ring, nodes: str) -> None:
+        """An operator is told in the end that these nodes are not well."""
+        text = f"{nodes}help: see the disk, and start ringd again\n"
+        self.assertTrue(at_last(lambda: ring.get("/health") == (503, text), pause=0.02), ring.get("/health"))
+
     def test_nodes_that_are_not_well(self) -> None:
         refuser = self.refuser()
-        with self.serves("--serve", "1", status=1, err=None, capacity=4_096, has_status=True, environment=refuser.environment(is_listed=True)) as ring:
+        with self.serves("--serve", "1", "--doors", "2", status=1, err=None, capacity=4_096, has_status=True,
+                         environment=refuser.environment(is_listed=True)) as ring:
             refuser.order(refusal(CALLS))
             self.stands_until_it_fails(ring)
             failed = time.monotonic()
-            self.assertTrue(ring.tells("/health", "node 2 failed\n"))
-            self.assertEqual((503, "node 2 failed\nhelp: see the disk, and start ringd again\n"), ring.get("/health"))
+            self.tells_of(ring, "node 2 failed\n")
             self.assertEqual((503, "node 2 failed\n"), ring.get("/ready"))
             self.assertEqual((200, "live\n"), ring.get("/live"))
             status, page = ring.get("/")
@@ -112,9 +117,7 @@ class FailedNodesTest(RefusedTest):
         """Stands at node 1 for 250 terms, without a look at the answers, until it is told to be full."""
         with ring.client(1) as client:
             client.send(b"".join(b"stand red %d 10\n" % term for term in range(1, 251)))
-            text = "node 1 full\nnode 2 failed\nhelp: see the disk, and start ringd again\n"
-            self.assertTrue(ring.tells("/health", text), ring.get("/health"))
-            self.assertEqual((503, text), ring.get("/health"))
+            self.tells_of(ring, "node 1 full\nnode 2 failed\n")
 
 
 if __name__ == "__main__":
