@@ -48,7 +48,7 @@ def build(folder: str) -> str:
     library = os.path.join(folder, "refuse.so")
     for compiler in compilers():
         words = [*compiler, "-O2", "-ffreestanding", "-nostdlib", "-shared", "-fPIC", os.path.join(HERE, "refuse.c"), "-o", library]
-        if subprocess.run(words, stdin=subprocess.DEVNULL, stdout=subprocess.DEVNULL, stderr=subprocess.DEVNULL, timeout=60, check=False).returncode == 0:
+        if subprocess.run(words, stdin=subprocess.DEVNULL, capture_output=True, timeout=60, check=False).returncode == 0:
             return library
     raise NoCompiler("no compiler of C, neither the toolchain's clang nor cc, clang or gcc")
 
