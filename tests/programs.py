@@ -4,6 +4,7 @@ The programs are those of RINGD and RINGCTL, or bin/ringd and bin/ringctl. Each 
 sync takes is for the machine to say."""
 
 import contextlib
+import json
 import os
 import pathlib
 import random
@@ -17,6 +18,9 @@ import unittest
 import urllib.error
 import urllib.request
 from collections.abc import Callable, Iterator
+from typing import Any
+
+from refuser import NoCompiler, Refuser, build
 
 ROOT = pathlib.Path(__file__).resolve().parent.parent
 RINGD, RINGCTL = (os.path.realpath(os.environ.get(name.upper()) or ROOT / "bin" / name) for name in ("ringd", "ringctl"))
@@ -237,6 +241,20 @@ class Ring:
             with fault:
                 return fault.code, fault.read().decode()
 
+    def answer_to(self, head: bytes) -> bytes:
+        """All that an operator is answered to these bytes, up to the end of the connection."""
+        with Client(self.status, self.is_over) as operator:
+            operator.send(head)
+            return operator.rest().encode()
+
+    def states(self) -> dict[str, Any]:
+        """What `/status` tells."""
+        return json.loads(self.get("/status")[1])
+
+    def state(self, node: int) -> dict[str, Any]:
+        """What it tells of a node."""
+        return self.states()["nodes"][node - 1]
+
     def tells(self, target: str, text: str) -> bool:
         """Whether an operator is told this text in the end."""
         def is_told() -> bool:
@@ -272,3 +290,23 @@ class RingTest(unittest.TestCase):
         """So many sessions at a node, each of one question of a group that nobody stood for."""
         for _ in range(count):
             self.assertEqual("none", ring.asks(node, "who nobody 4"))
+
+
+class RefusedTest(RingTest):
+    """A test of rings of which calls of the system fail, or begin late. It is skipped where no compiler is."""
+    library: str
+
+    @classmethod
+    def setUpClass(cls) -> None:
+        folder = tempfile.mkdtemp(prefix="refuse-")
+        cls.addClassCleanup(shutil.rmtree, folder, True)
+        try:
+            cls.library = build(folder)
+        except NoCompiler as fault:
+            raise unittest.SkipTest(str(fault)) from None
+
+    def refuser(self) -> Refuser:
+        """What orders the calls of one ring."""
+        folder = tempfile.mkdtemp(prefix="orders-")
+        self.addCleanup(shutil.rmtree, folder, True)
+        return Refuser(folder, self.library)

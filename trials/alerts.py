@@ -27,7 +27,7 @@ import time
 from collections.abc import Callable, Iterator
 from typing import NamedTuple
 
-from refusing import NODES, Refusal, Refuser, exchange
+from refusing import NODES, Refusal, exchange, refuser_in
 from short import Failed, free_ports
 
 HERE = pathlib.Path(__file__).resolve().parent
@@ -42,7 +42,7 @@ class Trial:
     """A ring of three nodes, and what was told of it at each scrape: None where nothing was."""
 
     def __init__(self, ringd: str, folder: str, capacity: int = 65_536, doors: int = 2) -> None:
-        self.refuser = Refuser(folder)
+        self.refuser = refuser_in(folder)
         self.folder, self.port = folder, free_ports(NODES + 1)
         self.scrapes: list[dict[str, str] | None] = []
         self.sessions: dict[int, socket.socket] = {}
@@ -71,7 +71,7 @@ class Trial:
 
     def order(self, name: str, way: int, pause: float = 0.0, is_for_good: bool = True) -> None:
         """The next call of a name, or each from now on, fails so, or begins so much later."""
-        self.refuser.order(name, way, pause, is_for_good)
+        self.refuser.order(Refusal(name, 1, way, is_for_good, pause))
 
     def obey(self) -> None:
         """No call is refused from now on."""

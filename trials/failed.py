@@ -21,7 +21,7 @@ import tempfile
 import time
 
 from hangs import HOST, NODE, get, value
-from refusing import NODES, Refusal, Refuser, exchange, serving
+from refusing import NODES, Refusal, Refuser, exchange, refuser_in, serving
 from short import Failed, free_ports
 
 CAPACITY = 1 << 20
@@ -42,7 +42,7 @@ def memory(process: int) -> int:
 
 def fail(refuser: Refuser, port: int) -> None:
     """The next sync is refused, which is that of a Stand at node 2: its device has failed for good then."""
-    refuser.order("fdatasync")
+    refuser.order(Refusal("fdatasync", 1))
     with socket.create_connection((HOST, port + NODE - 1), 10) as session:
         if not (told := exchange(session, "stand blue 1 1")).startswith("no 9 "):
             raise Failed(f"where its disk fails node {NODE} tells {told!r}")
@@ -77,7 +77,7 @@ def fill(port: int, status: int) -> int:
 
 def send(ringd: str, folder: str, messages: int) -> None:
     """A ring of which node 2 fails, and so many messages to it."""
-    refuser = Refuser(folder)
+    refuser = refuser_in(folder)
     port = free_ports(NODES + 1)
     with serving(ringd, folder, f"port = {port}\ncapacity = {CAPACITY}\n", ["--status", str(port + NODES)],
                  refuser.environment(Refusal("fdatasync")), subprocess.DEVNULL) as process:

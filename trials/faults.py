@@ -1,10 +1,10 @@
 #!/usr/bin/env python3
 """faults.py [--ringd PATH] [--most N] [NAME..]
 
-Has one call of the system fail in a ring of three nodes by `ringd`, by trials/refuse.c: call 1, 2, 3 and so on of `pwrite`, `fdatasync`,
-`fsync`, `ftruncate`, `rename`, `openat` and `pread`, or of the NAMEs, until no call of a run is left; with EIO, with ENOSPC, with EINTR, and
-for `pwrite` with a write that takes one byte; each alone, and with all later calls of that name, but for calls that are interrupted for
-good, which are made again for ever. The ring is started in an empty folder, and on one of which the next election makes a
+Has one call of the system fail in a ring of three nodes by `ringd`, by tests/refuse.c: call 1, 2, 3 and so on of `pwrite`, `fdatasync`,
+`fsync`, `ftruncate`, `rename`, `openat`, `pread` and `unlink`, or of the NAMEs, until no call of a run is left; with EIO, with ENOSPC, with
+EINTR, and for `pwrite` with a write that takes one byte; each alone, and with all later calls of that name, but for calls that are
+interrupted for good, which are made again for ever. The ring is started in an empty folder, and on one of which the next election makes a
 checkpoint; it is asked for two elections, and closed. Then it is started again with nothing refused.
 
 What is held against each run: a read or a write that is interrupted, and a short write, are finished and nobody sees them. All else fails
@@ -25,7 +25,7 @@ import signal
 import sys
 import tempfile
 
-from refusing import ELECTIONS, NAMES, SPARED, End, Refusal, Refuser, Ring, filled
+from refusing import ELECTIONS, NAMES, SPARED, End, Refusal, Ring, filled, refuser_in
 
 FILES = NAMES[1:]
 WAYS = {"EIO": errno.EIO, "ENOSPC": errno.ENOSPC, "EINTR": errno.EINTR, "short": 0}
@@ -57,7 +57,7 @@ def faults(refusal: Refusal, end: End) -> list[str]:
 class Trial:
     def __init__(self, ringd: str, folder: str, most: int) -> None:
         self.ringd, self.folder, self.most = ringd, folder, most
-        self.refuser = Refuser(folder)
+        self.refuser = refuser_in(folder)
         self.base = filled(ringd, folder, 20)
         self.runs = self.faults = 0
 

@@ -2,7 +2,7 @@
 """growths.py [--programs FOLDER] [--tests FOLDER] [--every N] [--first N] [PART..]
 growths.py --crates
 
-Refuses a growth of the programs, by trials/refuse.c: growth 1, 2, 3 and so on, until a run has none that is refused. The PARTs, all of
+Refuses a growth of the programs, by tests/refuse.c: growth 1, 2, 3 and so on, until a run has none that is refused. The PARTs, all of
 them where none is named:
 
   tests    the tests named `refused_growths` or `a_refused_growth..`, as `rt test` has left them: each growth alone. They pass
@@ -33,7 +33,7 @@ import sys
 import tempfile
 from collections import Counter
 
-from refusing import ELECTIONS, SPARED, Refusal, Refuser, Ring, filled
+from refusing import ELECTIONS, SPARED, Refusal, Ring, filled, refuser_in
 
 HERE = os.path.dirname(os.path.abspath(__file__))
 ROOT = os.path.dirname(HERE)
@@ -48,7 +48,7 @@ SECONDS = 10
 class Trial:
     def __init__(self, words: argparse.Namespace, folder: str) -> None:
         self.words, self.folder = words, folder
-        self.refuser = Refuser(folder)
+        self.refuser = refuser_in(folder)
         self.growths = self.faults = 0
 
     def fault(self, text: str) -> None:

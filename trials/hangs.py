@@ -22,7 +22,7 @@ import tempfile
 import time
 from typing import NamedTuple
 
-from refusing import NODES, Refusal, Refuser, answer, exchange, serving
+from refusing import NODES, Refusal, Refuser, answer, exchange, refuser_in, serving
 from short import Failed, free_ports
 
 HANG = 10
@@ -133,7 +133,7 @@ def watch(refuser: Refuser, port: int, status: int, pause: float) -> None:
         # Behind an election the ring comes to rest.
         time.sleep(1)
         others = Others(port, pause)
-        refuser.order("fdatasync", pause=pause)
+        refuser.order(Refusal("fdatasync", 1, pause=pause))
         begun = time.monotonic()
         session.sendall(b"stand red 5 10\n")
         # The sync that hangs is that of this Stand.
@@ -158,7 +158,7 @@ def watch(refuser: Refuser, port: int, status: int, pause: float) -> None:
 def stand(port: int, refuser: Refuser, pause: float) -> None:
     """Asks node 2 for a Stand whose sync hangs, where nobody else is asked."""
     with socket.create_connection(("127.0.0.1", port + NODE - 1), pause + 10) as session:
-        refuser.order("fdatasync", pause=pause)
+        refuser.order(Refusal("fdatasync", 1, pause=pause))
         if (told := exchange(session, "stand red 5 10")) != "stood":
             raise Failed(f"the Stand is answered with {told!r}")
     # What is over is told within a second.
@@ -169,7 +169,7 @@ def serve(ringd: str, pause: float, with_status: bool) -> None:
     """A ring whose node 2 hangs, with a status port that is asked meanwhile or without one, and what it tells on standard error."""
     folder = tempfile.mkdtemp(prefix="hangs.")
     try:
-        refuser = Refuser(folder)
+        refuser = refuser_in(folder)
         port = free_ports(NODES + 1)
         words = ["--doors", "2"] + (["--status", str(port + NODES)] if with_status else [])
         with open(os.path.join(folder, "err"), "w+b") as errors:

@@ -1,10 +1,9 @@
-"""Runs of a program of which one call is refused, by refuse.c."""
+"""Runs of a ring of which one call is refused, by tests/refuse.c."""
 import contextlib
 import os
 import select
 import shutil
 import socket
-import struct
 import subprocess
 import sys
 import time
@@ -14,10 +13,9 @@ from typing import IO, NamedTuple
 from known import Known, Question, Session
 from short import Failed, free_ports
 
-HERE = os.path.dirname(os.path.abspath(__file__))
-NAMES = ("memory", "pwrite", "fdatasync", "fsync", "ftruncate", "rename", "openat", "pread")
-# The file of orders: counts, the name, the way, for good, the pause, the call that is refused, how many were.
-COUNTS, ORDERS = struct.Struct("=8Q"), struct.Struct("=8Q4I2Q")
+sys.path.append(os.path.join(os.path.dirname(os.path.abspath(__file__)), "..", "tests"))
+from refuser import NAMES, NoCompiler, Refusal, Refuser
+
 NODES, CAPACITY, SECONDS = 3, 4_096, 10
 # How long a ring that lacks memory is waited for, in seconds: it may wait for good.
 SHORT = 0.4
@@ -25,50 +23,13 @@ SHORT = 0.4
 SPARED = 3
 
 
-class Refusal(NamedTuple):
-    """Call number `at` of a name is refused, counted from 1, or none where it is 0; as this errno, or 0 for a write of one byte."""
-    name: str = "memory"
-    at: int = 0
-    way: int = 0
-    for_good: bool = False
-
-
-class Refuser:
-    """The library, and its orders, in a folder."""
-
-    def __init__(self, folder: str) -> None:
-        compiler = next((found for name in ("cc", "clang", "gcc") if (found := shutil.which(name))), None)
-        if compiler is None:
-            print("no C compiler, neither cc, clang nor gcc", file=sys.stderr)
-            sys.exit(2)
-        self.library, self.orders = os.path.join(folder, "refuse.so"), os.path.join(folder, "orders")
-        subprocess.run([compiler, "-O2", "-shared", "-fPIC", os.path.join(HERE, "refuse.c"), "-o", self.library], check=True)
-
-    def environment(self, refusal: Refusal) -> dict[str, str]:
-        """Of a program of which this call is refused."""
-        with open(self.orders, "wb") as file:
-            file.write(ORDERS.pack(*[0] * 8, NAMES.index(refusal.name), refusal.way, refusal.for_good, 0, refusal.at, 0))
-        return {**os.environ, "LD_PRELOAD": self.library, "REFUSE": self.orders}
-
-    def order(self, name: str, way: int = 0, pause: float = 0.0, is_for_good: bool = False) -> None:
-        """The next call of a name, or each from now on, fails so, or begins so many seconds later. What is counted meanwhile stays."""
-        with open(self.orders, "r+b") as file:
-            counts = COUNTS.unpack(file.read(COUNTS.size))
-            place = NAMES.index(name)
-            rest = ORDERS.pack(*counts, place, way, is_for_good, int(pause * 1000), counts[place] + 1, 0)[COUNTS.size:]
-            file.seek(COUNTS.size)
-            file.write(rest)
-
-    def obey(self) -> None:
-        """No call is refused from now on."""
-        with open(self.orders, "r+b") as file:
-            file.seek(ORDERS.size - 16)
-            file.write(struct.pack("=Q", 0))
-
-    def refused(self) -> int:
-        """How many calls were refused."""
-        with open(self.orders, "rb") as file:
-            return ORDERS.unpack(file.read())[-1]
+def refuser_in(folder: str) -> Refuser:
+    """What orders the calls of a ring, in a folder. Ends with 2 where nothing here compiles C."""
+    try:
+        return Refuser(folder)
+    except NoCompiler as fault:
+        print(fault, file=sys.stderr)
+        sys.exit(2)
 
 
 @contextlib.contextmanager

@@ -13,6 +13,8 @@ mod calls;
 #[cfg(test)]
 mod held;
 #[cfg(test)]
+mod hosts;
+#[cfg(test)]
 mod hub;
 #[cfg(test)]
 mod hub_clients;
@@ -20,6 +22,8 @@ mod hub_clients;
 mod hubs;
 #[cfg(test)]
 mod letting_go;
+#[cfg(test)]
+mod lines;
 #[cfg(test)]
 mod ring;
 #[cfg(test)]

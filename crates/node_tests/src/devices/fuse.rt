@@ -1,7 +1,8 @@
 // A fuse in both modes at each call: which calls fail, what is passed on, and what is counted.
 use super::{Step, memory_device, plays, read};
-use disk_model::{Device, FuseDevice, MemDevice, Tear};
+use disk_model::{Device, FuseDevice, MemDevice, SystemCall, SystemFault, Tear};
 use std::alloc::AllocGlobal;
+use std::io::ErrorKind;
 use std::process::Abort;
 
 /// A device of at most 8 bytes that holds `abcd`, not synced.
@@ -115,4 +116,16 @@ static FAILS_TWICE: [Step<'static>; 3] = [
 #[test]
 fn faults_of_both_are_counted(rt: HostRuntime) {
     drop(failing(&rt, 1, &FAILS_TWICE));
+}
+
+/// What the system would have answered is told once a call failed, whichever it was.
+#[test]
+fn what_a_fuse_answers(rt: HostRuntime) {
+    let mut device = FuseDevice::new(written(&rt), 1, true);
+    assert!(&rt; device.read_at(0, &mut [0]).is_ok());
+    assert!(&rt; device.cause().is_none());
+    assert!(&rt; device.sync().is_err());
+    let told = SystemFault::of_kind(SystemCall::Write, ErrorKind::Other);
+    assert!(&rt; device.cause() == Some(told));
+    drop(device);
 }
