@@ -82,3 +82,5 @@ mod unsynced;
 mod verbose;
 #[cfg(test)]
 mod visits;
+#[cfg(test)]
+mod words;
