@@ -228,6 +228,9 @@ class WhatIsRead(Player):
         self.plays("settings", text, "# name\nnodes = 3\n! reads\n  nodes 3 dir a\n# nothing\ndir\n! reads\n  setting dir is missing\n! reads\n  setting  is missing\n\ndir\n\n! reads\n"
                    "  setting  is missing\n")
 
+    def test_words_begin_with_the_name_alone(self) -> None:
+        self.plays("settings", "#!/bin/sh\nread -r line\necho \"ringd: $line\" >&2\nexit 2\n", "ringdom = 1\n! reads\n  ringdom = 1\nringd-x = 1\n! reads\n  ringd-x = 1\n")
+
     def test_words(self) -> None:
         text = "#!/bin/sh\ncase $1 in out) echo text ;; err) echo text >&2; exit 2 ;; both) echo one; echo two >&2 ;; esac\n"
         self.plays("settings", text, "ringd out\n  status 0 on standard output\nringd err\n  status 2 on standard error\nringd both\n  one\n  two\n  ends 0\nringd\n  ends 0\n")
