@@ -31,6 +31,7 @@ STARTS = 3
 PORTS = range(7_600, 8_000)
 NUMBER = re.compile(r"(?<!\w)\d+(?!\w)", re.ASCII)
 ESCAPE = re.compile(rb"\\(?:([nr\\])|x([0-9a-f]{2})|.|$)", re.DOTALL)
+TIME = re.compile(r"^\d{4}-\d\d-\d\dT\d\d:\d\d:\d\dZ(?= )")
 DATE = re.compile(rb"\r\nDate: \w{3}, .{21}GMT\r\n")
 
 
@@ -174,13 +175,13 @@ def play_console(program: str, stands: list[str], patience: Patience) -> list[st
 
 
 def what_is_read(run: Run) -> list[str]:
-    """What is told of settings that are shown, or why they are refused; of words, in which way they are."""
+    """The settings that are shown, or why they are refused, with a star for the time; of words that are refused, in which way."""
     ends, out, err = run.end(), run.told(1), run.told(2)
-    refused = re.match(r"ringd: (.*)\n", err)
+    refused = re.match(r"(<\d>|\* error |)ringd: (.*)\n", TIME.sub("*", err))
     if ends == "ends 0" and out.startswith("nodes ") and not err:
         return [" ".join(out.split("\n")[:-1])]
     if ends == "ends 2" and refused and not out:
-        return [refused[1]]
+        return [refused[1] + refused[2]]
     if not ends.startswith("ends ") or bool(out) == bool(err):
         return [*lines_of(out), *lines_of(err), ends]
     return [f"status {ends.split()[-1]} on standard {'output' if out else 'error'}"]
@@ -297,7 +298,7 @@ class Serving:
             stream.sendall(text)
             while not line.endswith(b"\n") and (more := stream.recv(1)):
                 line += more
-        except TimeoutError:
+        except socket.timeout:
             self.patience.lose()
             return "no answer in time"
         except OSError:
@@ -344,7 +345,7 @@ class Serving:
             try:
                 while more := stream.recv(65_536):
                     text += more
-            except TimeoutError:
+            except socket.timeout:
                 self.patience.lose()
             except OSError:
                 pass

@@ -6,7 +6,7 @@ import difflib
 import pathlib
 import re
 import tempfile
-import time
+import textwrap
 import unittest
 
 import play
@@ -28,12 +28,27 @@ sleep 1000 &
 echo $! > {folder}/child
 sleep 1000
 """
-# Prints each line of a script that is none, and no comment: `mark` and `wrong` as a line that is no command.
+# Listens at the ports of a ring, has a child, and answers nobody.
+DEAF = """#!/usr/bin/env python3
+import os, re, socket, sys, time
+port = int(re.search(r"port = (\\d+)", sys.stdin.read())[1])
+held = [socket.create_server(("127.0.0.1", it)) for it in (port - 1, port, port + 1)]
+if child := os.fork():
+    with open("{folder}/child", "w") as it:
+        it.write(str(child))
+time.sleep(1000)
+"""
+# Prints each line of a script that is no comment: `mark` and `wrong` as lines that are no command, and `two` as two lines.
 CONSOLE = """#!/bin/sh
 while read -r line; do
   case "$line" in '#'*) ;; mark|wrong) echo "no 25 line" ;; two) echo one; echo two ;; *) echo "$line" ;; esac
 done
 """
+
+
+def block(text: str) -> str:
+    """A text that stands here further in, behind an empty line."""
+    return textwrap.dedent(text.lstrip("\n"))
 
 
 class Player(unittest.TestCase):
@@ -83,8 +98,27 @@ class TheRows(unittest.TestCase):
 class WhatDiffers(Player):
     """What a player tells of rows that do not hold."""
 
-    ROWS = ("# first\nring 2 made 7602\nanew\nshows ringd --make\n  words --make\n  nodes = 2\n  dir = \"made\"\n  port = 7602\n  capacity = 65536\n"
-            "  said\n  ends 0\n\n# second\nring 2 other 7602\nanew\nwrite status-3\nringd\n  said\n  ends 3\n")
+    ROWS = block("""
+        # first
+        ring 2 made 7602
+        anew
+        shows ringd --make
+          words --make
+          nodes = 2
+          dir = "made"
+          port = 7602
+          capacity = 65536
+          said
+          ends 0
+
+        # second
+        ring 2 other 7602
+        anew
+        write status-3
+        ringd
+          said
+          ends 3
+        """)
 
     def test_rows_that_hold(self) -> None:
         self.plays("ringd", ECHO, self.ROWS)
@@ -107,11 +141,43 @@ class WhatDiffers(Player):
         self.plays("ringd", ECHO, asked, self.ROWS)
 
     def test_nothing_goes_from_row_to_row(self) -> None:
-        self.plays("ringd", ECHO, "ring 2 made 7602\nanew\nwrite file a\nfiles\n  file\n\nring 2 made 7602\nfiles\n  No such file or directory (os error 2)\n"
-                   "shows ringd\n  words\n  nodes = 2\n  dir = \"made\"\n  port = 7602\n  capacity = 65536\n  said\n  ends 0\n\nshows ringd\n  words\n  said\n  ends 0\n")
+        self.plays("ringd", ECHO, block("""
+            ring 2 made 7602
+            anew
+            write file a
+            files
+              file
+
+            ring 2 made 7602
+            files
+              No such file or directory (os error 2)
+            shows ringd
+              words
+              nodes = 2
+              dir = "made"
+              port = 7602
+              capacity = 65536
+              said
+              ends 0
+
+            shows ringd
+              words
+              said
+              ends 0
+            """))
 
     def test_a_line_that_is_no_command(self) -> None:
-        self.plays("ringd", ECHO, "rings 2 made 7602\n  no 25 line\nring two made 7602\n  no ring\nring 2 made 7602\nanew\nwrite file a\\q\n  no 25 line\nfiles\n")
+        self.plays("ringd", ECHO, block("""
+            rings 2 made 7602
+              no 25 line
+            ring two made 7602
+              no ring
+            ring 2 made 7602
+            anew
+            write file a\\q
+              no 25 line
+            files
+            """))
 
     def test_a_program_that_is_not_there(self) -> None:
         with self.assertRaises(RuntimeError):
@@ -132,37 +198,68 @@ class WhatDoesNotEnd(Player):
             return True
 
     def hangs(self, kind: str, rows: str, text: str = HANGS) -> None:
-        begun = time.monotonic()
         self.assertEqual(rows, play.played(kind, rows, self.stand_in(text.format(folder=self.folder)), 0.5))
-        self.assertLess(time.monotonic() - begun, 60.0)
         child = int((self.folder / "child").read_text())
         self.assertTrue(at_last(lambda: self.is_gone(child)))
 
     def test_ringd(self) -> None:
-        self.hangs("ringd", "ring 2 made 7602\nanew\nringd --make\n  does not end\nfiles\n\n# next\nring 2 made 7602\nanew\nfiles\n")
+        self.hangs("ringd", block("""
+            ring 2 made 7602
+            anew
+            ringd --make
+              does not end
+            files
+
+            # next
+            ring 2 made 7602
+            anew
+            files
+            """))
 
     def test_a_ring_that_serves_nobody(self) -> None:
-        self.hangs("ringd", "ring 2 made 7602\nanew\nringd --serve 2 --status 7601 &\n1 stand red 5 10\n  no door\nget /live\n  no answer\n"
-                   "until /live has live\n  no\nend\n  does not end\n\nring 2 made 7602\nfiles\n  No such file or directory (os error 2)\n")
+        self.hangs("ringd", block("""
+            ring 2 made 7602
+            anew
+            ringd --serve 2 --status 7601 &
+            1 stand red 5 10
+              no door
+            get /live
+              no answer
+            until /live has live
+              no
+            end
+              does not end
+
+            ring 2 made 7602
+            files
+              No such file or directory (os error 2)
+            """))
 
     def test_console(self) -> None:
         self.hangs("console", "one\n  does not end\n")
 
     def test_settings(self) -> None:
-        self.hangs("settings", "ringd\n  does not end\n! reads\n  does not end\n")
+        self.hangs("settings", block("""
+            ringd
+              does not end
+            ! reads
+              does not end
+            """))
 
     def test_a_ring_that_does_not_answer(self) -> None:
-        text = """#!/usr/bin/env python3
-import os, re, socket, sys, time
-port = int(re.search(r"port = (\\d+)", sys.stdin.read())[1])
-held = [socket.create_server(("127.0.0.1", it)) for it in (port - 1, port, port + 1)]
-child = os.fork()
-if child:
-    open("FOLDER/child", "w").write(str(child))
-time.sleep(1000)
-""".replace("FOLDER", str(self.folder))
-        path = self.stand_in(text)
-        rows = "ring 2 made 7602\nringd --serve 1 &\n1 stand red 5 10\n  no answer in time\nget /live\n  no answer\n  no bye at 7602\n  no bye at 7603\nend\n  does not end\n"
+        path = self.stand_in(DEAF.format(folder=self.folder))
+        rows = block("""
+            ring 2 made 7602
+            ringd --serve 1 &
+            1 stand red 5 10
+              no answer in time
+            get /live
+              no answer
+              no bye at 7602
+              no bye at 7603
+            end
+              does not end
+            """)
         self.assertEqual(rows, play.played("ringd", rows, path, 10.0))
         child = int((self.folder / "child").read_text())
         self.assertTrue(at_last(lambda: self.is_gone(child)))
@@ -172,12 +269,27 @@ class ThePorts(Player):
     """Rows name ports that are others when they are played."""
 
     def test_a_port_is_given_and_told_back(self) -> None:
-        self.plays("ringd", ECHO, "ring 3 made 7610\nanew\nshows ringd --status 7609 --leap 7613\n  words --status 7609 --leap 7613\n  nodes = 3\n  dir = \"made\"\n"
-                   "  port = 7610\n  capacity = 65536\n  said\n  ends 0\n")
+        self.plays("ringd", ECHO, block("""
+            ring 3 made 7610
+            anew
+            shows ringd --status 7609 --leap 7613
+              words --status 7609 --leap 7613
+              nodes = 3
+              dir = "made"
+              port = 7610
+              capacity = 65536
+              said
+              ends 0
+            """))
 
     def test_the_program_is_given_another(self) -> None:
         told = self.folder / "told"
-        self.plays("ringd", f"#!/bin/sh\ncat > {told}\necho \"$2\" >> {told}\n", "ring 2 made 7610\nanew\nringd --status 7609\n  ends 0\n")
+        self.plays("ringd", f"#!/bin/sh\ncat > {told}\necho \"$2\" >> {told}\n", block("""
+            ring 2 made 7610
+            anew
+            ringd --status 7609
+              ends 0
+            """))
         text = told.read_text()
         port = re.search(r"port = (\d+)", text)
         assert port is not None
@@ -185,55 +297,189 @@ class ThePorts(Player):
         self.assertEqual(str(int(port[1]) - 1), text.split("\n")[-2])
 
     def test_a_port_that_the_program_was_not_given(self) -> None:
-        told = play.played("ringd", "ring 2 made 7610\nringd\n  port 7610\n  ends 0\n", self.stand_in("#!/bin/sh\necho port 7610 >&2\n"))
+        told = play.played("ringd", block("""
+            ring 2 made 7610
+            ringd
+              port 7610
+              ends 0
+            """), self.stand_in("#!/bin/sh\necho port 7610 >&2\n"))
         self.assertNotIn("  port 7610\n", told)
         self.assertRegex(told, r"\n  port \d+\n  ends 0\n")
 
     def test_a_port_at_its_border_stays(self) -> None:
-        self.plays("ringd", ECHO, "ring 3 a 65533\nanew\nshows ringd\n  words\n  nodes = 3\n  dir = \"a\"\n  port = 65533\n  capacity = 65536\n  said\n  ends 0\n")
+        self.plays("ringd", ECHO, block("""
+            ring 3 a 65533
+            anew
+            shows ringd
+              words
+              nodes = 3
+              dir = "a"
+              port = 65533
+              capacity = 65536
+              said
+              ends 0
+            """))
 
     def test_a_port_that_is_held(self) -> None:
-        self.plays("ringd", ECHO, "ring 2 made 7610\nlisten 7611\nlisten 7611\n  Address already in use (os error 98)\nrelease\nlisten 7611\n")
+        self.plays("ringd", ECHO, block("""
+            ring 2 made 7610
+            listen 7611
+            listen 7611
+              Address already in use (os error 98)
+            release
+            listen 7611
+            """))
 
     def test_bytes_stay(self) -> None:
-        self.plays("ringd", ECHO, "ring 2 made 7610\nanew\nwrite a 7610\nwrite b \\x37610\nwrite c 17610\nsame a b\n  yes\nsame a c\n  no\nalter c 17 71\n"
-                   "alter c 7610 1234\n  no\nalter a 7610 1234\nsame a b\n  no\n")
+        self.plays("ringd", ECHO, block("""
+            ring 2 made 7610
+            anew
+            write a 7610
+            write b \\x37610
+            write c 17610
+            same a b
+              yes
+            same a c
+              no
+            alter c 17 71
+            alter c 7610 1234
+              no
+            alter a 7610 1234
+            same a b
+              no
+            """))
 
 
 class WhatEachLinePrints(Player):
     """A row of the console is a script, of which each line is told with what it prints."""
 
     def test_lines(self) -> None:
-        self.plays("console", CONSOLE, "# name\none\n  one\ntwo\n  one\n  two\n# nothing\nthree\n  three\n\n# next\none\n  one\n")
+        self.plays("console", CONSOLE, block("""
+            # name
+            one
+              one
+            two
+              one
+              two
+            # nothing
+            three
+              three
+
+            # next
+            one
+              one
+            """))
 
     def test_lines_that_are_no_command(self) -> None:
-        self.plays("console", CONSOLE, "wrong\n  no 25 line\n# nothing\nwrong\n  no 25 line\none\n  one\nmark\n  no 25 line\n")
+        self.plays("console", CONSOLE, block("""
+            wrong
+              no 25 line
+            # nothing
+            wrong
+              no 25 line
+            one
+              one
+            mark
+              no 25 line
+            """))
 
     def test_an_answer_of_another_line(self) -> None:
-        self.plays("console", CONSOLE, "one\ntwo\n  one\n  one\n  two\n", "one\n  one\ntwo\n  one\n  two\n")
+        self.plays("console", CONSOLE, block("""
+            one
+            two
+              one
+              one
+              two
+            """), block("""
+            one
+              one
+            two
+              one
+              two
+            """))
 
     def test_lines_that_change_what_was_printed(self) -> None:
         text = "#!/bin/sh\nset -- \"$(wc -l)\"\nfor it in $(seq $1); do echo \"$it of $1\"; done\n"
-        self.plays("console", text, "a\nb\n", "a\n  1 of 1\nb\n  the lines above print another text:\n  1 of 2\n  2 of 2\n")
+        self.plays("console", text, "a\nb\n", block("""
+            a
+              1 of 1
+            b
+              the lines above print another text:
+              1 of 2
+              2 of 2
+            """))
 
     def test_a_status(self) -> None:
-        self.plays("console", "#!/bin/sh\necho out of memory >&2\nexit 1\n", "a\n  out of memory\n  ends 1\n")
+        self.plays("console", block("""
+            #!/bin/sh
+            echo out of memory >&2
+            exit 1
+            """), block("""
+            a
+              out of memory
+              ends 1
+            """))
 
 
 class WhatIsRead(Player):
     """A row of settings has settings and words."""
 
     def test_settings(self) -> None:
-        text = "#!/bin/sh\nread -r line\ncase $line in nodes*) echo nodes 3; echo dir a ;; *) echo \"ringd: setting $line is missing\" >&2; echo \"ringd: see $line\" >&2; exit 2 ;; esac\n"
-        self.plays("settings", text, "# name\nnodes = 3\n! reads\n  nodes 3 dir a\n# nothing\ndir\n! reads\n  setting dir is missing\n! reads\n  setting  is missing\n\ndir\n\n! reads\n"
-                   "  setting  is missing\n")
+        text = block("""
+            #!/bin/sh
+            read -r line
+            case $line in nodes*) echo nodes 3; echo dir a; exit 0 ;; esac
+            echo "ringd: setting $line is missing" >&2
+            echo "ringd: see $line" >&2
+            exit 2
+            """)
+        self.plays("settings", text, block("""
+            # name
+            nodes = 3
+            ! reads
+              nodes 3 dir a
+            # nothing
+            dir
+            ! reads
+              setting dir is missing
+            ! reads
+              setting  is missing
+
+            dir
+
+            ! reads
+              setting  is missing
+            """))
 
     def test_words_begin_with_the_name_alone(self) -> None:
-        self.plays("settings", "#!/bin/sh\nread -r line\necho \"ringd: $line\" >&2\nexit 2\n", "ringdom = 1\n! reads\n  ringdom = 1\nringd-x = 1\n! reads\n  ringd-x = 1\n")
+        self.plays("settings", block("""
+            #!/bin/sh
+            read -r line
+            echo "ringd: $line" >&2
+            exit 2
+            """), block("""
+            ringdom = 1
+            ! reads
+              ringdom = 1
+            ringd-x = 1
+            ! reads
+              ringd-x = 1
+            """))
 
     def test_words(self) -> None:
         text = "#!/bin/sh\ncase $1 in out) echo text ;; err) echo text >&2; exit 2 ;; both) echo one; echo two >&2 ;; esac\n"
-        self.plays("settings", text, "ringd out\n  status 0 on standard output\nringd err\n  status 2 on standard error\nringd both\n  one\n  two\n  ends 0\nringd\n  ends 0\n")
+        self.plays("settings", text, block("""
+            ringd out
+              status 0 on standard output
+            ringd err
+              status 2 on standard error
+            ringd both
+              one
+              two
+              ends 0
+            ringd
+              ends 0
+            """))
 
 
 class TheCommand(Player):
