@@ -1,5 +1,6 @@
 # run: an example, before any proof. test: the names in the documents, and the merge gate. wrong_bodies: the wrong bodies that the gate does not try, those too that a test has to refuse, of CRATES or of all.
-# rows: the rows of crates/rows/data, played by what is not proved, and written with what is printed now.
+# rows: all rows, written with what is printed now: those of crates/rows/data played by what is not proved, those of tests/rows over RINGD
+# and RINGCTL, or bin/ringd and bin/ringctl.
 # docs: bin/promises.md, each promise and each wrong body, by the sources.
 # bin/NAME: a proved program. bench: the times of ringctl.
 # ringd: bin/ringd. serve: runs ringd on examples/ring.toml, unproved where bin/ringd is not built.
@@ -36,7 +37,9 @@
 .PHONY: ringd install serve fencing clients picture pictures kills years earlier load short threads scrapes writeback syncs fuzz faults growths hangs flips failed
 .PHONY: starts docs unit image copies alerts deb runbook full uses hosts turns lost_host
 
-KINDS = console node ringd session settings
+# The kinds of rows that look inside of nodes, and those of programs.
+KINDS = node session
+PROGRAM_KINDS = console ringd settings
 ROWS = $(KINDS:%=crates/rows/data/%.rows)
 
 run:
@@ -55,6 +58,10 @@ rows:
 	  cp bin/rows.txt crates/rows/data/$$kind.rows; \
 	done
 	@cat $(ROWS) > crates/rows/stdout
+	@for kind in $(PROGRAM_KINDS); do \
+	  tests/play.py $$kind tests/rows/$$kind.rows > bin/rows.txt || exit 1; \
+	  cp bin/rows.txt tests/rows/$$kind.rows; \
+	done
 
 docs:
 	@mkdir -p bin

@@ -11,7 +11,7 @@ tried for N seconds, 10 by default, side by side; all of them where none is name
   files     node files with bytes changed, cut, added and swapped, against a reader of docs/FORMATS.md: what a start prints, or answers
   heads     heads of HTTP, whole, cut, repeated, with bytes changed
 
-Every tenth script or session has a row of the gate in it (crates/rows/README.md).
+Every tenth script or session has a row of the gate in it (tests/README.md).
 
 Besides: no run is ended by a signal, none hangs for ten seconds, none takes 64 MiB, and no start that is refused changes a file.
 --unproved is for builds of `rt try`, which are slow: a hang is a minute then, and memory is not looked at.

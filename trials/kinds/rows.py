@@ -3,14 +3,15 @@ import functools
 import pathlib
 import re
 
-DATA = pathlib.Path(__file__).resolve().parents[2] / "crates" / "rows" / "data"
+ROOT = pathlib.Path(__file__).resolve().parents[2]
+FOLDERS = {"console": ROOT / "tests" / "rows", "session": ROOT / "crates" / "rows" / "data"}
 MARK = re.compile(rb"! (?:sends|repeats (\d+))(?: (.*))?")
 
 
 @functools.cache
 def rows_of(kind: str) -> list[list[bytes]]:
     """The lines of each row of this kind, without comments."""
-    text = (DATA / f"{kind}.rows").read_bytes()
+    text = (FOLDERS[kind] / f"{kind}.rows").read_bytes()
     rows = [[line for line in row.split(b"\n") if line and not line.startswith((b"  ", b"#"))] for row in text.split(b"\n\n")]
     return [row for row in rows if row]
 

@@ -22,11 +22,3 @@ pub fn add_printed(out: &mut Vec<u8>, text: &str) -> Result<(), AllocError> {
     }
     Ok(())
 }
-
-/// What stands before the first space of a text, and what stands behind it.
-pub fn first_word(text: &str) -> (&str, &str) {
-    match text.split_once(' ') {
-        Some(parts) => parts,
-        None => (text, ""),
-    }
-}

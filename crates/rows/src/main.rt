@@ -1,19 +1,15 @@
-//! `rows KIND FILE ..` plays the rows of each file as the kind before it says, `console`, `node`, `ringd`, `session` or
-//! `settings`, and prints them with what they print now: rows that hold are printed as they were read. README.md tells their
-//! form. Where a file is not played, why stands on standard error, and the status is 1, or 2 where the words are wrong.
+//! `rows KIND FILE ..` plays the rows of each file as the kind before it says, `node` or `session`, and prints them with what
+//! they print now: rows that hold are printed as they were read. README.md tells their form. Where a file is not played, why
+//! stands on standard error, and the status is 1, or 2 where the words are wrong.
 #![tactic(auto)]
 
-mod console;
 mod kind;
 mod lines;
 mod node;
 mod play;
 mod program;
-mod ringd;
 mod session;
-mod settings;
 
-use crate::kind::Kind;
 use crate::program::{print, read_all, refuse};
 use std::process::ExitCode;
 
@@ -23,10 +19,7 @@ fn main(rt: HostRuntime) -> ExitCode {
         Err(fault) => return refuse(&rt, fault),
     };
     for rows in &all {
-        let played = match rows.kind {
-            Kind::InMemory(kind) => kind.played(rt.alloc(), &rows.text),
-            Kind::Ringd => ringd::played(&rt, &rows.text),
-        };
+        let played = rows.kind.played(rt.alloc(), &rows.text);
         if let Err(fault) = print(&rt, played) {
             return refuse(&rt, fault);
         }

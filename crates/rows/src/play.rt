@@ -1,6 +1,4 @@
 // The rows, one by one.
-ghost use Rattle.std.specs.Prelude.{◌≤◌, length};
-
 use crate::lines::{INDENT, add_line};
 use line_words::first_line;
 use std::alloc::{AllocError, Global};
@@ -9,14 +7,11 @@ use std::alloc::{AllocError, Global};
 pub trait Player {
     /// Plays the lines of a row, and adds each with what it prints now. After want of memory, the only refusal, `out` has
     /// no meaning.
-    fn play_row(alloc: Global, lines: &[&[u8]], out: &mut Vec<u8>) -> Result<(), AllocError>
-        requires { length lines.now ≤ 1000000 };
+    fn play_row(alloc: Global, lines: &[&[u8]], out: &mut Vec<u8>) -> Result<(), AllocError>;
 }
 
 // Plays the lines up to each empty one, without those that were printed before.
-fn play_rows<P: Player>(alloc: Global, rows: &[u8], out: &mut Vec<u8>) -> Result<(), AllocError>
-    requires { length rows.now ≤ 1000000 }
-{
+fn play_rows<P: Player>(alloc: Global, rows: &[u8], out: &mut Vec<u8>) -> Result<(), AllocError> {
     let mut lines: Vec<&[u8]> = Vec::new(alloc);
     let mut rest = rows;
     while !rest.is_empty() {
@@ -34,9 +29,7 @@ fn play_rows<P: Player>(alloc: Global, rows: &[u8], out: &mut Vec<u8>) -> Result
 }
 
 /// The rows, with what their lines print now.
-pub fn played<P: Player>(alloc: Global, rows: &[u8]) -> Result<Vec<u8>, AllocError>
-    requires { length rows.now ≤ 1000000 }
-{
+pub fn played<P: Player>(alloc: Global, rows: &[u8]) -> Result<Vec<u8>, AllocError> {
     let mut out = Vec::new(alloc);
     play_rows::<P>(alloc, rows, &mut out)?;
     Ok(out)

@@ -15,7 +15,7 @@ const ROWS_BYTES: usize = 1_000_000;
 #[derive(Clone, Copy, Debug, Error)]
 pub enum RowsFault {
     /// A word is no kind, or no file stands behind one.
-    #[error("usage: rows KIND FILE .., a KIND being console, node, ringd, session or settings")]
+    #[error("usage: rows KIND FILE .., a KIND being node or session")]
     Words,
     /// The file cannot be read.
     #[error("rows cannot be read")]
@@ -31,12 +31,11 @@ pub enum RowsFault {
     Memory,
 }
 
-/// The rows of a file, 1,000,000 bytes at most, and what they ask.
+/// The rows of a file, and what they ask.
 #[derive(Drop)]
 pub struct Rows {
     pub kind: Kind,
     pub text: Vec<u8>,
-    ghost bounded: { length text.items ≤ 1000000 },
 }
 
 fn read_rows(rt: &HostRuntime, path: &str) -> Result<Vec<u8>, RowsFault>

@@ -6,5 +6,4 @@ mod marks;
 mod player;
 mod stage;
 
-pub use bytes::add_bytes;
 pub use player::Row;

@@ -40,3 +40,5 @@ mod slow;
 mod station;
 #[cfg(test)]
 mod together;
+#[cfg(test)]
+mod words;
