@@ -4,7 +4,7 @@
 It runs in the current folder, and hands on the exit status. Every half second it looks through /proc for processes of the
 toolchain below the gate. The time of one is what it and all below it, forked copies too, have taken by then, user plus
 system. By the crate that is checked there are three kinds: a proof, the tests of a crate (`--test`), and an edit, whose
-folder is a copy named rt-edit-... The table of them is Markdown."""
+folder is a copy named rt-edit-... The table of them is Markdown. What tests/run.py and all below it took is a line of its own."""
 
 import collections
 import os
@@ -18,6 +18,8 @@ PAUSE = 0.5
 TICKS = os.sysconf("SC_CLK_TCK")
 KINDS = ("proof", "tests", "edits")
 OTHER = ("", "other")
+# The tests of programs and packages, which tests/run.py runs behind `rt ci`.
+PROGRAMS = ("", "programs")
 
 # A process that runs: its parent, its start, and its ticks with those of its children that ended and were waited for.
 Process = collections.namedtuple("Process", "parent start ticks")
@@ -37,13 +39,16 @@ def processes():
 
 
 def purpose(number, top):
-    """The crate and the kind of a process of the toolchain; None of any other process, and of one that has ended."""
+    """The crate and the kind of a process of the toolchain, or what runs the tests of programs; None of any other process, and of one
+    that has ended."""
     try:
         with open(f"/proc/{number}/cmdline", errors="replace") as cmdline:
             words = cmdline.read().split("\0")
         folder = os.readlink(f"/proc/{number}/cwd")
     except OSError:
         return None
+    if f"{top}/tests/run.py" in (os.path.join(folder, word) for word in words[:2]):
+        return PROGRAMS
     if not os.path.basename(words[0]).startswith("rattle"):
         return None
     if words[1:2] not in (["check"], ["build"]) or "--crate-name" not in words:
@@ -124,6 +129,7 @@ def main():
     whole, seconds = used.ru_utime + used.ru_stime, costs.seconds()
     print(f"\nProcessor seconds, user plus system:\n\n{table(seconds)}\n")
     print(
+        f"{seconds[PROGRAMS]:.0f} processor seconds of the tests of programs and packages (tests/run.py)\n\n"
         f"{whole:.0f} processor seconds in all, with {seconds[OTHER]:.0f} of other tools (must_not_compile, layout, linking, tests that run)"
         f" and {whole - sum(seconds.values()):.0f} not attributed (rt, programs, ends between two looks);"
         f" wall time {wall:.0f} s; exit status {status}"
