@@ -75,7 +75,7 @@ func TestWhatIsAnAddressOfIPv6(t *testing.T) {
 func TestARingAtAnAddressOfIPv6(t *testing.T) {
 	listener, err := net.Listen("tcp", "[::1]:0")
 	if err != nil {
-		t.Skip("this host has no IPv6")
+		t.Skip("for want of IPv6")
 	}
 	must(t, listener.Close())
 	votes := newVotes().lead(20, 2, 30)

@@ -109,7 +109,7 @@ func (s served) python(t *testing.T, words ...string) *program {
 	t.Helper()
 	path, err := exec.LookPath("python3")
 	if err != nil {
-		t.Skip(err)
+		t.Skip("for want of python3")
 	}
 	command := exec.Command(path, append([]string{"-m", "cinoweta"}, words...)...)
 	command.Dir = filepath.Join("..", "python")

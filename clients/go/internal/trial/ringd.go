@@ -46,7 +46,7 @@ type Ringd struct {
 func Serve(t *testing.T, host string, capacity int, words ...string) *Ringd {
 	t.Helper()
 	if fault := NoRingd(); fault != "" {
-		t.Skip(fault)
+		t.Skip("for want of ringd: " + fault)
 	}
 	folder := t.TempDir()
 	made := &Ringd{Dir: filepath.Join(folder, "ring"), Host: host, settings: filepath.Join(folder, "ring.toml"), capacity: capacity,
