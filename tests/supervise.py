@@ -89,7 +89,9 @@ def supervise(seconds: float, words: list[str]) -> int:
             raise OSError(ctypes.get_errno(), "prctl")
     until = time.monotonic() + seconds
     try:
-        command = os.posix_spawnp(words[0], words, os.environ, setpgroup=0, setsigmask=(), setsigdef=(signal.SIGPIPE,))
+        # What this one was told to ignore, as behind nohup, the command does not.
+        command = os.posix_spawnp(words[0], words, os.environ, setpgroup=0, setsigmask=(),
+                                  setsigdef=signal.valid_signals() - {signal.SIGKILL, signal.SIGSTOP})
     except OSError as fault:
         print(f"supervise.py: {words[0]}: {fault.strerror}", file=sys.stderr)
         return CANNOT_RUN

@@ -143,6 +143,11 @@ class RunTest(unittest.TestCase):
             for name in ("child", "ready"):
                 (self.notes / name).unlink()
 
+    def test_no_signal_is_ignored(self) -> None:
+        self.write("one", "self.assertEqual(signal.getsignal(signal.SIGHUP), signal.SIG_DFL)")
+        self.addCleanup(signal.signal, signal.SIGHUP, signal.signal(signal.SIGHUP, signal.SIG_IGN))
+        self.last(self.told(status=0), "1 passed, 0 failed")
+
     def test_what_crashes_fails(self) -> None:
         self.write("one", "pass", "os.kill(os.getpid(), signal.SIGSEGV)", "pass", "pass")
         told = self.told(status=1)
