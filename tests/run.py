@@ -391,7 +391,7 @@ def wanted(runner: Runner, tools: Tools) -> list[str]:
     names = set(tools.missing)
     for _, reason in runner.skipped:
         if match := re.search(r"\bfor want of (.+)", reason):
-            names.update(re.split(r",\s*|\s+and\s+", match[1].strip()))
+            names.update(re.split(r",\s+|\s+and\s+", match[1].strip()))
     return sorted(names)
 
 
