@@ -130,6 +130,8 @@ func TestOfManyThatCampaignAtOnceOneLeads(t *testing.T) {
 func TestAKillOfRingdIsOutlived(t *testing.T) {
 	served := serve(t, usual)
 	ring := served.ring(t)
+	// How long a start takes is for the machine to say.
+	ring.Timeout = time.Minute
 	election, err := ring.Campaign(background(t), "red", CampaignOptions{})
 	must(t, err)
 	served.Kill()

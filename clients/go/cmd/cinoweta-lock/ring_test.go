@@ -182,7 +182,7 @@ func (r *ring) status(t *testing.T) string {
 // until waits until it is so.
 func until(t *testing.T, what string, isSo func() bool) {
 	t.Helper()
-	for late := time.Now().Add(20 * time.Second); !isSo(); time.Sleep(20 * time.Millisecond) {
+	for late := time.Now().Add(60 * time.Second); !isSo(); time.Sleep(20 * time.Millisecond) {
 		if time.Now().After(late) {
 			t.Fatal("it never came: " + what)
 		}
