@@ -1,4 +1,5 @@
-# run: an example, before any proof. test: the names in the documents, and the merge gate. wrong_bodies: the wrong bodies that the gate does not try, those too that a test has to refuse, of CRATES or of all.
+# run: an example, before any proof. test: the names in the documents, the merge gate, and the tests of the programs that it has linked,
+# of the packages and of the examples. wrong_bodies: the wrong bodies that the gate does not try, those too that a test has to refuse, of CRATES or of all.
 # rows: all rows, written with what is printed now: those of crates/rows/data played by what is not proved, those of tests/rows over RINGD
 # and RINGCTL, or bin/ringd and bin/ringctl.
 # docs: bin/promises.md, each promise and each wrong body, by the sources.
@@ -8,8 +9,8 @@
 # install: bin/ringd, its man page, its units, an example of settings, alerts and the package's wheel, under PREFIX, below DESTDIR.
 # deb: a Debian package of bin/ringd and of what goes with it, in bin.
 # fencing: a leader that is paused and wakes late is turned away, over bin/ringd.
-# clients: the tests of the clients, over bin/ringd, and of the alerts.
-# picture: the run of SCRIPT by ringctl, drawn as text and, to the file SVG, as SVG. pictures: the tests of that, and the pictures of the docs, over bin/ringctl.
+# clients: the tests of the clients, over RINGD, or the ringd that was built here, and of the examples, their alerts among them.
+# picture: the run of SCRIPT by ringctl, drawn as text and, to the file SVG, as SVG. pictures: the tests of that, and the pictures of the docs, over ringctl.
 # kills: bin/ringd is killed 100 times at random moments, started again, and held to all that it told; what holds it is tried first.
 # years: bin/ringd elects and retires for an hour, killed once half way: whether its memory grows; YEARS has further words of trials/years.py.
 # earlier: a ringd of an earlier release, EARLIER, is killed 50 times, and bin/ringd as often on the same folders.
@@ -50,6 +51,7 @@ test:
 	@docs/check.py
 	@must_not_compile/run.py
 	@rt ci
+	@RINGD=crates/ringd/out/ringd RINGCTL=crates/ringctl/out/ringctl tests/run.py
 
 rows:
 	@mkdir -p bin
@@ -115,21 +117,13 @@ fencing:
 	@examples/fencing/run.py
 
 clients:
-	@python3 -m unittest discover -s examples
-	@python3 -m unittest discover -s clients/python/tests -t clients/python
-	@if command -v mypy > /dev/null; then mypy --strict clients/python/cinoweta; \
-	else echo "make clients: mypy is not there: the types of clients/python are not looked at"; fi
-	@if command -v go > /dev/null; then cd clients/go && go vet ./... && $(if $(RINGD),RINGD="$(abspath $(RINGD))") go test ./...; \
-	else echo "make clients: go is not there: the tests of clients/go are skipped"; fi
-	@if command -v promtool > /dev/null; then promtool test rules examples/test_alerts.yml; \
-	else echo "make clients: promtool is not there: the tests of examples/alerts.yml are skipped"; fi
+	@tests/run.py clients/python clients/go examples
 
 picture:
 	@pictures/draw.sh "$(SCRIPT)" $(if $(SVG),"$(SVG)")
 
 pictures: bin/ringctl
-	@python3 -m unittest discover -s pictures
-	@pictures/picture.py --docs
+	@tests/run.py pictures
 
 kills:
 	@python3 -m unittest discover -s trials

@@ -59,7 +59,6 @@ import argparse
 import itertools
 import json
 import os
-import random
 import re
 import resource
 import select
@@ -74,6 +73,9 @@ import time
 from dataclasses import dataclass, field
 
 HERE = os.path.dirname(os.path.abspath(__file__))
+sys.path.append(os.path.join(HERE, "..", "tests"))
+from ports import free_ports
+
 RING = 3
 STANDS = 1024
 CAPACITY = 1 << 20
@@ -116,20 +118,6 @@ def compiled(folder: str) -> str:
             return program
     print("load.py: no C compiler, neither cc, clang nor gcc", file=sys.stderr)
     sys.exit(2)
-
-
-def free_ports() -> int:
-    """The first of so many ports in a row that nobody uses."""
-    for _ in range(100):
-        port = random.randrange(20000, 32000)
-        try:
-            for place in range(RING + 1):
-                with socket.socket() as probe:
-                    probe.bind(("127.0.0.1", port + place))
-            return port
-        except OSError:
-            continue
-    raise Failed("no free ports")
 
 
 def read(port: int, target: str) -> bytes:
@@ -186,7 +174,7 @@ class Server:
 
     def __init__(self, rings: Rings, sessions: int | None, doors: int) -> None:
         ringd, folder = rings.ringd, rings.folder
-        self.port = free_ports()
+        self.port = free_ports(RING + 1)
         self.path = tempfile.mkdtemp(prefix="ring-", dir=folder)
         settings = os.path.join(folder, "settings.toml")
         with open(settings, "w", encoding="utf-8") as file:

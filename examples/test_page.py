@@ -77,7 +77,7 @@ class Page(HTMLParser):
         self.texts.append(data)
 
 
-@unittest.skipUnless(CHROMIUM, "there is no chromium")
+@unittest.skipUnless(CHROMIUM, "for want of chromium")
 class PageTest(unittest.TestCase):
     def setUp(self) -> None:
         self.ring = Served()

@@ -15,6 +15,7 @@ import unittest
 HERE = pathlib.Path(__file__).resolve().parent
 sys.path[:0] = [str(HERE), str(HERE.parent / "clients" / "python")]
 from cinoweta import AlreadyStands, Ring
+from tests.clock import PATIENCE, took, tried
 from tests.served import RINGD, Served, require
 
 setUpModule = require
@@ -22,7 +23,7 @@ setUpModule = require
 
 def ask(port: int, line: str) -> str:
     """The answer to a line, or "" where the session ends without one."""
-    with socket.create_connection(("127.0.0.1", port), 5.0) as connection:
+    with socket.create_connection(("127.0.0.1", port), PATIENCE) as connection:
         connection.sendall(line.encode() + b"\n")
         try:
             return connection.makefile().readline()
@@ -45,25 +46,25 @@ class SignalTest(unittest.TestCase):
         with Ring.parse(self.served.ports) as ring, self.assertRaises(AlreadyStands):
             ring.stand("red", term, 2)
 
+    @tried
     def test_each_of_them_ends_it_at_once(self) -> None:
         for term, number in enumerate((signal.SIGTERM, signal.SIGINT, signal.SIGHUP), 1):
-            with self.subTest(number):
-                self.assertEqual(ask(self.served.first, f"stand red {term} 1"), "stood\n")
-                begin = time.monotonic()
-                self.served.process.send_signal(number)
-                self.assertEqual(self.served.process.wait(timeout=5.0), -number)
-                self.assertLess(time.monotonic() - begin, 2.0)
-                self.holds_after(term)
+            self.assertEqual(ask(self.served.first, f"stand red {term} 1"), "stood\n")
+            begin = time.monotonic()
+            self.served.process.send_signal(number)
+            self.assertEqual(self.served.process.wait(timeout=PATIENCE), -number)
+            took(begin, 2.0, what=number)
+            self.holds_after(term)
 
     def test_a_limit_of_files_below_what_it_writes_ends_it(self) -> None:
         self.assertEqual(ask(self.served.first, "stand red 1 1"), "stood\n")
         resource.prlimit(self.served.process.pid, resource.RLIMIT_FSIZE, (64, resource.RLIM_INFINITY))
         self.assertEqual(ask(self.served.first, "stand red 2 1"), "")
-        self.assertEqual(self.served.process.wait(timeout=5.0), -signal.SIGXFSZ)
+        self.assertEqual(self.served.process.wait(timeout=PATIENCE), -signal.SIGXFSZ)
         self.holds_after(1)
 
 
-@unittest.skipUnless(os.geteuid() == 0 and shutil.which("unshare"), "process 1 of a namespace needs root and unshare")
+@unittest.skipUnless(os.geteuid() == 0 and shutil.which("unshare"), "for want of root, unshare")
 class ProcessOneTest(unittest.TestCase):
     """As process 1 of a container it is deaf, but for KILL, and an init before it is not."""
 
@@ -105,9 +106,9 @@ class ProcessOneTest(unittest.TestCase):
         self.assertEqual(ask(self.served.first, "stand red 2 1"), "no 9 failed\n")
         self.assertIsNone(process.poll())
         os.kill(self.first(process), signal.SIGKILL)
-        process.wait(timeout=5.0)
+        process.wait(timeout=PATIENCE)
 
-    @unittest.skipUnless(shutil.which("tini"), "tini is not there")
+    @unittest.skipUnless(shutil.which("tini"), "for want of tini")
     def test_the_image_has_an_init_that_hands_the_signal_on(self) -> None:
         words = self.words_of_the_image()
         self.assertIn("--existing", words)
@@ -115,7 +116,7 @@ class ProcessOneTest(unittest.TestCase):
         self.assertEqual(ask(self.served.first, "stand red 1 1"), "stood\n")
         os.kill(self.first(process), signal.SIGTERM)
         # As a shell has it.
-        self.assertEqual(process.wait(timeout=5.0), 128 + signal.SIGTERM)
+        self.assertEqual(process.wait(timeout=PATIENCE), 128 + signal.SIGTERM)
 
 
 if __name__ == "__main__":

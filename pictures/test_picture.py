@@ -168,7 +168,7 @@ class PictureTest(unittest.TestCase):
         with self.assertRaises(Fault):
             picture.draw("", "", "nothing")
 
-    @unittest.skipUnless(os.access(RINGCTL, os.X_OK), "there is no bin/ringctl")
+    @unittest.skipUnless(os.access(RINGCTL, os.X_OK), "for want of ringctl")
     def test_random_scripts(self) -> None:
         many = "ring 2 lazy\n" + "".join(f"stand 1 red {term} 0\n" for term in range(1, 70)) + "flush 1\nflush 1\n"
         for seed in range(300):

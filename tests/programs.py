@@ -7,7 +7,6 @@ import contextlib
 import json
 import os
 import pathlib
-import random
 import shutil
 import socket
 import subprocess
@@ -22,6 +21,8 @@ from typing import Any
 
 from refuser import NoCompiler, Refuser, build
 
+from ports import Ports, free_ports as free_ports
+
 ROOT = pathlib.Path(__file__).resolve().parent.parent
 RINGD, RINGCTL = (os.path.realpath(os.environ.get(name.upper()) or ROOT / "bin" / name) for name in ("ringd", "ringctl"))
 PATIENCE = 60.0
@@ -33,19 +34,6 @@ def require(program: str) -> None:
     if not os.access(program, os.X_OK):
         name = os.path.basename(program)
         raise RuntimeError(f"{program} is not there: make bin/{name} builds it, and {name.upper()} names another one")
-
-
-def free_ports(count: int) -> int:
-    """The first of so many ports in a row that nobody uses, below those that the system gives by itself."""
-    with open("/proc/sys/net/ipv4/ip_local_port_range", encoding="ascii") as given:
-        end = min(int(given.read().split()[0]), 32_768)
-    for _ in range(200):
-        first = random.randrange(max(1_024, end - 22_000), end - count)
-        with contextlib.suppress(OSError), contextlib.ExitStack() as probes:
-            for port in range(first, first + count):
-                probes.enter_context(socket.socket()).bind((HOST, port))
-            return first
-    raise RuntimeError("no free ports")
 
 
 def at_last(is_so: Callable[[], bool], seconds: float = PATIENCE, pause: float = 0.005) -> bool:
@@ -143,7 +131,8 @@ class Ring:
         self.folder = tempfile.mkdtemp(prefix="ring-")
         self.dir = os.path.join(self.folder, "ring")
         os.mkdir(self.dir)
-        self.port = 0
+        # Kept for it while it is away.
+        self.ports: "Ports | None" = None
         self.process: "subprocess.Popen[bytes] | None" = None
 
     def __enter__(self) -> "Ring":
@@ -152,6 +141,11 @@ class Ring:
 
     def __exit__(self, *_: object) -> None:
         self.remove()
+
+    @property
+    def port(self) -> int:
+        """That of node 1; 0 before it was started."""
+        return self.ports.first if self.ports else 0
 
     @property
     def status(self) -> int:
@@ -190,12 +184,12 @@ class Ring:
     def start(self) -> None:
         """Starts it, at ports that nobody uses, and waits until it serves or ends. Raises where it serves in no case."""
         for _ in range(20):
-            self.port = self.port or free_ports(self.nodes + self.has_status)
+            self.ports = self.ports or Ports(self.nodes + self.has_status)
             self.spawn()
             at_last(lambda: "serving\n" in self.told("out") or self.is_over())
             if not (self.is_over() and "cannot be used" in self.told()):
                 break
-            self.port = 0
+            self.let_ports_go()
         else:
             raise RuntimeError("no free ports")
         if "serving\n" not in self.told("out") and not self.is_over():
@@ -217,9 +211,15 @@ class Ring:
             self.process.kill()
             self.process.wait()
 
+    def let_ports_go(self) -> None:
+        if self.ports:
+            self.ports.close()
+        self.ports = None
+
     def remove(self) -> None:
         """Ends it, and removes its folder."""
         self.kill()
+        self.let_ports_go()
         shutil.rmtree(self.folder, ignore_errors=True)
 
     def client(self, node: int = 1) -> Client:

@@ -16,7 +16,6 @@ of 9, where a difference of 20 ms is none); 1 where not, or where the server did
 import argparse
 import multiprocessing
 import os
-import random
 import re
 import shutil
 import socket
@@ -27,6 +26,9 @@ import tempfile
 import threading
 import time
 
+sys.path.append(os.path.join(os.path.dirname(os.path.abspath(__file__)), "..", "tests"))
+from ports import free_ports
+
 ELECTIONS = 9
 SECONDS = 60
 MOST = 64
@@ -35,20 +37,6 @@ SLACK = 0.02
 
 class Failed(Exception):
     """The server did not do what is expected of it."""
-
-
-def free_ports(count: int) -> int:
-    """The first of so many ports in a row that nobody uses."""
-    for _ in range(100):
-        port = random.randrange(20000, 32000)
-        try:
-            for place in range(count):
-                with socket.socket() as probe:
-                    probe.bind(("127.0.0.1", port + place))
-            return port
-        except OSError:
-            continue
-    raise Failed("no free ports")
 
 
 def exchange(port: int, lines: str) -> str:

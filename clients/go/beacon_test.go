@@ -8,6 +8,8 @@ import (
 	"syscall"
 	"testing"
 	"time"
+
+	"cinoweta/internal/trial"
 )
 
 func TestWhatABeaconMayTell(t *testing.T) {
@@ -20,6 +22,10 @@ func TestWhatABeaconMayTell(t *testing.T) {
 }
 
 func TestBidsThatNoBeaconMade(t *testing.T) {
+	trial.Tried(t, testBidsThatNoBeaconMade)
+}
+
+func testBidsThatNoBeaconMade(t *testing.T) {
 	leavesNone(t)
 	// 0 names the port 0, the second one the port 65,573.
 	same(t, portOf(99_999_999), 65_573)
@@ -27,7 +33,7 @@ func TestBidsThatNoBeaconMade(t *testing.T) {
 	for _, bid := range []int{0, 99_999_999, 10, 999_999_999} {
 		same(t, isThere(background(t), bid, 30*time.Second), false)
 	}
-	same(t, time.Since(before) < 3*time.Second, true)
+	trial.Took(t, time.Since(before), 0, 3*time.Second)
 }
 
 func TestABeaconAnswersToItsOwnBidAlone(t *testing.T) {
@@ -47,6 +53,10 @@ func TestABeaconAnswersToItsOwnBidAlone(t *testing.T) {
 }
 
 func TestABeaconThatIsSilentIsNotThere(t *testing.T) {
+	trial.Tried(t, testABeaconThatIsSilentIsNotThere)
+}
+
+func testABeaconThatIsSilentIsNotThere(t *testing.T) {
 	leavesNone(t)
 	listener, err := net.Listen("tcp", address("", 0))
 	must(t, err)
@@ -55,7 +65,7 @@ func TestABeaconThatIsSilentIsNotThere(t *testing.T) {
 	bid := listener.Addr().(*net.TCPAddr).Port * bidSpread
 	same(t, isThere(background(t), bid, 200*time.Millisecond), false)
 	took := time.Since(before)
-	same(t, took >= 200*time.Millisecond && took < time.Second, true)
+	trial.Took(t, took, 200*time.Millisecond, time.Second)
 }
 
 // answers answers to the first line with this text.
@@ -89,6 +99,10 @@ func serverOf(t *testing.T, does ...func(conn net.Conn)) int {
 }
 
 func TestABeaconIsAskedAgainWhereThatMayHelp(t *testing.T) {
+	trial.Tried(t, testABeaconIsAskedAgainWhereThatMayHelp)
+}
+
+func testABeaconIsAskedAgainWhereThatMayHelp(t *testing.T) {
 	slow := func(conn net.Conn) {
 		conn.Read(make([]byte, longestQuestion))
 		time.Sleep(beaconLimit)
@@ -101,7 +115,7 @@ func TestABeaconIsAskedAgainWhereThatMayHelp(t *testing.T) {
 		t.Helper()
 		before := time.Now()
 		same(t, isThere(background(t), serverOf(t, does...), 30*time.Second), wanted)
-		same(t, time.Since(before) < 3*time.Second, true)
+		trial.Took(t, time.Since(before), 0, 3*time.Second)
 	}
 	sees(true, slow)
 	sees(true, reset, reset)
@@ -184,6 +198,10 @@ func silent(t *testing.T, beacon *beacon, count int) []net.Conn {
 }
 
 func TestClientsThatAreSilentDoNotTakeABeaconFromOthers(t *testing.T) {
+	trial.Tried(t, testClientsThatAreSilentDoNotTakeABeaconFromOthers)
+}
+
+func testClientsThatAreSilentDoNotTakeABeaconFromOthers(t *testing.T) {
 	leavesNone(t)
 	beacon, err := newBeacon(0, "")
 	must(t, err)
@@ -194,7 +212,7 @@ func TestClientsThatAreSilentDoNotTakeABeaconFromOthers(t *testing.T) {
 		conns := silent(t, beacon, count)
 		before := time.Now()
 		same(t, isThere(background(t), beacon.bid(), 30*time.Second), true)
-		same(t, time.Since(before) < 2*time.Second, true)
+		trial.Took(t, time.Since(before), 0, 2*time.Second)
 		// On a slow machine it was left before, since it asked nothing.
 		if count > mostClients && time.Since(begun) < beaconLimit {
 			conns[0].SetDeadline(time.Now().Add(30 * time.Second))
@@ -208,6 +226,10 @@ func TestClientsThatAreSilentDoNotTakeABeaconFromOthers(t *testing.T) {
 }
 
 func TestABeaconEndsWithItsClients(t *testing.T) {
+	trial.Tried(t, testABeaconEndsWithItsClients)
+}
+
+func testABeaconEndsWithItsClients(t *testing.T) {
 	leavesNone(t)
 	beacon, err := newBeacon(0, "")
 	must(t, err)
@@ -219,6 +241,6 @@ func TestABeaconEndsWithItsClients(t *testing.T) {
 		_, err = conn.Read(make([]byte, 1))
 		is(t, err, io.EOF)
 	}
-	same(t, time.Since(before) < beaconLimit, true)
+	trial.Took(t, time.Since(before), 0, beaconLimit)
 	same(t, isThere(background(t), beacon.bid(), 30*time.Second), false)
 }

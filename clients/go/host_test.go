@@ -7,6 +7,8 @@ import (
 	"strings"
 	"testing"
 	"time"
+
+	"cinoweta/internal/trial"
 )
 
 const (
@@ -75,7 +77,7 @@ func TestWhatIsAnAddressOfIPv6(t *testing.T) {
 func TestARingAtAnAddressOfIPv6(t *testing.T) {
 	listener, err := net.Listen("tcp", "[::1]:0")
 	if err != nil {
-		t.Skip("this host has no IPv6")
+		t.Skip("for want of IPv6")
 	}
 	must(t, listener.Close())
 	votes := newVotes().lead(20, 2, 30)
@@ -157,6 +159,10 @@ func TestTheStatusOfAnotherHostIsAskedThere(t *testing.T) {
 }
 
 func TestALockAcrossHostsIsRefusedBeforeAnythingIsSent(t *testing.T) {
+	trial.Tried(t, testALockAcrossHostsIsRefusedBeforeAnythingIsSent)
+}
+
+func testALockAcrossHostsIsRefusedBeforeAnythingIsSent(t *testing.T) {
 	leavesNone(t)
 	for host, isSaid := range map[string]bool{silentHost: false, "127.example": false, "localhost.example": false,
 		"128.0.0.1": false, "0.0.0.0": false, "": true, ownHost: true, otherHost: true} {
@@ -185,7 +191,7 @@ func TestALockAcrossHostsIsRefusedBeforeAnythingIsSent(t *testing.T) {
 			lock = lockOf(t, ring, LockOptions{AcrossHosts: isSaid, Rank: rank})
 			refuses("cinoweta: a lock's rank is 0 to 9")
 		}
-		same(t, time.Since(before) < 100*time.Millisecond, true)
+		trial.Took(t, time.Since(before), 0, 100*time.Millisecond)
 	}
 }
 

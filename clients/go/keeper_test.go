@@ -8,6 +8,8 @@ import (
 	"sync/atomic"
 	"testing"
 	"time"
+
+	"cinoweta/internal/trial"
 )
 
 // many gives a ring of two nodes with three doors each, which vote for each group apart.
@@ -192,6 +194,10 @@ func shows(t *testing.T, ctx context.Context, ring *Ring, node int) error {
 }
 
 func TestASlowNodeKeepsNoLockAtAnotherOne(t *testing.T) {
+	trial.Tried(t, testASlowNodeKeepsNoLockAtAnotherOne)
+}
+
+func testASlowNodeKeepsNoLockAtAnotherOne(t *testing.T) {
 	ring, nodes, votes := many(t)
 	nodes[1].is(never(t))
 	ended := make(chan error, 1)
@@ -205,11 +211,15 @@ func TestASlowNodeKeepsNoLockAtAnotherOne(t *testing.T) {
 	presence.own = votes.votes["red"].bid(1)
 	must(t, presence.show(background(t), Led{1, Leader{1, presence.own}}))
 	presence.close()
-	same(t, time.Since(before) < time.Second, true)
+	trial.Took(t, time.Since(before), 0, time.Second)
 	same(t, as[*NoAnswerError](t, <-ended).Address, ring.address(2))
 }
 
 func TestWhoWaitsForASlowNodeLeavesAtOnce(t *testing.T) {
+	trial.Tried(t, testWhoWaitsForASlowNodeLeavesAtOnce)
+}
+
+func testWhoWaitsForASlowNodeLeavesAtOnce(t *testing.T) {
 	ring, nodes, votes := many(t)
 	locks := holdAll(t, ring, nodes, 9, LockOptions{})
 	var count atomic.Int32
@@ -231,7 +241,7 @@ func TestWhoWaitsForASlowNodeLeavesAtOnce(t *testing.T) {
 	before := time.Now()
 	cancel()
 	is(t, <-ended, context.Canceled)
-	same(t, time.Since(before) < time.Second, true)
+	trial.Took(t, time.Since(before), 0, time.Second)
 	// The session that it waited for is opened anew for who is there.
 	until(t, "the others", func() bool { return arePresent(nodes, locks) })
 }

@@ -4,6 +4,8 @@ import (
 	"strings"
 	"testing"
 	"time"
+
+	"cinoweta/internal/trial"
 )
 
 func TestABidTellsHowItsHolderIsSeen(t *testing.T) {
@@ -113,6 +115,10 @@ func TestAHolderOfAnEarlierReleaseIsSeenAcrossHosts(t *testing.T) {
 }
 
 func TestWhoMayGiveUpLaterIsWaitedForLonger(t *testing.T) {
+	trial.Tried(t, testWhoMayGiveUpLaterIsWaitedForLonger)
+}
+
+func testWhoMayGiveUpLaterIsWaitedForLonger(t *testing.T) {
 	ring, _, votes, _ := across(t, otherHost)
 	gone, err := newPresence(ring, "red", 0, "", time.Second)
 	must(t, err)
@@ -120,7 +126,7 @@ func TestWhoMayGiveUpLaterIsWaitedForLonger(t *testing.T) {
 	before := time.Now()
 	must(t, acrossOf(t, ring, LockOptions{Patience: 500 * time.Millisecond}).TryAcquire(background(t)))
 	took := time.Since(before)
-	same(t, took >= 1500*time.Millisecond && took < 3500*time.Millisecond, true)
+	trial.Took(t, took, 1500*time.Millisecond, 3500*time.Millisecond)
 }
 
 func TestWhoGaveALockAcrossHostsBackLeavesItForAMoment(t *testing.T) {

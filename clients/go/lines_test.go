@@ -5,7 +5,6 @@ import (
 	"context"
 	"errors"
 	"fmt"
-	"math/rand"
 	"net"
 	"runtime"
 	"sort"
@@ -221,12 +220,14 @@ func besideAt(t *testing.T, host string, answers ...answer) (*Ring, []*node) {
 	t.Helper()
 	leavesNone(t)
 	for range make([]struct{}, 100) {
-		first, nodes := 20_000+rand.Intn(12_000), []*node{}
+		first, letGo := trial.HoldPorts(t, len(answers))
+		nodes := []*node{}
 		for place, answer := range answers {
 			if made, err := newNode(address(host, first+place), answer); err == nil {
 				nodes = append(nodes, made)
 			}
 		}
+		letGo()
 		end := func() {
 			for _, made := range nodes {
 				made.end()

@@ -6,6 +6,8 @@ import (
 	"sync"
 	"testing"
 	"time"
+
+	"cinoweta/internal/trial"
 )
 
 // become has all nodes answer so after this time.
@@ -117,15 +119,19 @@ func gaveUp(t *testing.T, change func(nodes []*node)) time.Duration {
 }
 
 func TestWhoIsCutOffGivesUp(t *testing.T) {
+	trial.Tried(t, testWhoIsCutOffGivesUp)
+}
+
+func testWhoIsCutOffGivesUp(t *testing.T) {
 	// Nodes that are away, that hang, that have not heard of the term, and that find no memory tell nothing.
 	silent := func(string) (string, bool) { return never(t)("") }
 	for _, answer := range []answer{deaf, silent, always("none"), always("no 8 memory")} {
 		took := gaveUp(t, func(nodes []*node) { become(nodes, 0, answer) })
-		same(t, took > 1300*time.Millisecond && took < 1800*time.Millisecond, true)
+		trial.Took(t, took, 1300*time.Millisecond, 1800*time.Millisecond)
 	}
 	// The last answer came a second behind the begin, or a little later.
 	took := gaveUp(t, func(nodes []*node) { become(nodes, 1500*time.Millisecond, deaf) })
-	same(t, took > 2300*time.Millisecond && took < 3200*time.Millisecond, true)
+	trial.Took(t, took, 2300*time.Millisecond, 3200*time.Millisecond)
 }
 
 func TestWhoHearsOfOneNodeDoesNotGiveUp(t *testing.T) {
@@ -183,6 +189,10 @@ func TestNodesThatHaveNotHeardOfTheTermHaveNobodyGiveUp(t *testing.T) {
 }
 
 func TestALookAtNodesThatLagIsBounded(t *testing.T) {
+	trial.Tried(t, testALookAtNodesThatLagIsBounded)
+}
+
+func testALookAtNodesThatLagIsBounded(t *testing.T) {
 	votes := newVotes()
 	ring, nodes := beside(t, votes.at(1), votes.at(2), votes.at(3), votes.at(4), votes.at(5), votes.at(6), votes.at(7))
 	ring.Timeout = 300 * time.Millisecond
@@ -197,10 +207,14 @@ func TestALookAtNodesThatLagIsBounded(t *testing.T) {
 	}
 	before := time.Now()
 	same(t, holds(t, lock), true)
-	same(t, time.Since(before) < 900*time.Millisecond, true)
+	trial.Took(t, time.Since(before), 0, 900*time.Millisecond)
 }
 
 func TestALossIsToldForAllLocksWhereANodeIsSilent(t *testing.T) {
+	trial.Tried(t, testALossIsToldForAllLocksWhereANodeIsSilent)
+}
+
+func testALossIsToldForAllLocksWhereANodeIsSilent(t *testing.T) {
 	ring, nodes, _ := elected(t)
 	locks, all := []*Lock{}, groups{votes: map[string]*votes{}}
 	for place, node := range nodes {
@@ -226,7 +240,8 @@ func TestALossIsToldForAllLocksWhereANodeIsSilent(t *testing.T) {
 		}
 		time.Sleep(50 * time.Millisecond)
 	}
-	same(t, []any{left, time.Since(before) < 6*time.Second}, []any{0, true})
+	same(t, left, 0)
+	trial.Took(t, time.Since(before), 0, 6*time.Second)
 }
 
 func TestGoroutinesThatLookAtALockAskOnce(t *testing.T) {
@@ -309,6 +324,10 @@ func TestALookThatItsGiveUpEndsIsNoFault(t *testing.T) {
 }
 
 func TestWhoLooksSeldomAsksBeforeItGivesUp(t *testing.T) {
+	trial.Tried(t, testWhoLooksSeldomAsksBeforeItGivesUp)
+}
+
+func testWhoLooksSeldomAsksBeforeItGivesUp(t *testing.T) {
 	ring, nodes, _ := elected(t)
 	lock := lockOf(t, ring, LockOptions{GiveUp: 1500 * time.Millisecond})
 	must(t, lock.Acquire(background(t)))
@@ -322,7 +341,7 @@ func TestWhoLooksSeldomAsksBeforeItGivesUp(t *testing.T) {
 		time.Sleep(10 * time.Millisecond)
 	}
 	took := time.Since(before)
-	same(t, took > 100*time.Millisecond && took < 1200*time.Millisecond, true)
+	trial.Took(t, took, 100*time.Millisecond, 1200*time.Millisecond)
 	// Taken again, it is held anew.
 	same(t, lock.hasGivenUp, true)
 }
@@ -340,6 +359,10 @@ func TestALockThatIsLostToALaterLeaderIsNotGivenUp(t *testing.T) {
 }
 
 func TestWhoIsCutOffAcrossHostsGivesUpInTime(t *testing.T) {
+	trial.Tried(t, testWhoIsCutOffAcrossHostsGivesUpInTime)
+}
+
+func testWhoIsCutOffAcrossHostsGivesUpInTime(t *testing.T) {
 	ring, nodes, votes, _ := across(t, otherHost)
 	lock := acrossOf(t, ring, LockOptions{GiveUp: 1500 * time.Millisecond})
 	must(t, lock.Acquire(background(t)))
@@ -349,5 +372,5 @@ func TestWhoIsCutOffAcrossHostsGivesUpInTime(t *testing.T) {
 	become(nodes, 0, never(t))
 	as[*LockLostError](t, lock.awaitLoss(background(t)))
 	took := time.Since(before)
-	same(t, took > 1300*time.Millisecond && took < 1800*time.Millisecond, true)
+	trial.Took(t, took, 1300*time.Millisecond, 1800*time.Millisecond)
 }

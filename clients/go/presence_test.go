@@ -9,6 +9,8 @@ import (
 	"sync/atomic"
 	"testing"
 	"time"
+
+	"cinoweta/internal/trial"
 )
 
 // A teller tells of `red` as `ringd --status` does: of the latest leader that the votes know, present where a session
@@ -163,6 +165,10 @@ func TestWhatAHolderTellsAcrossHostsIsTold(t *testing.T) {
 }
 
 func TestWhoHoldsALockAcrossHostsIsToldInTime(t *testing.T) {
+	trial.Tried(t, testWhoHoldsALockAcrossHostsIsToldInTime)
+}
+
+func testWhoHoldsALockAcrossHostsIsToldInTime(t *testing.T) {
 	ring, _, votes, _ := across(t, otherHost)
 	must(t, acrossOf(t, ring, LockOptions{}).Acquire(background(t)))
 	other := acrossOf(t, ring, LockOptions{})
@@ -175,7 +181,7 @@ func TestWhoHoldsALockAcrossHostsIsToldInTime(t *testing.T) {
 	same(t, as[*LockTakenError](t, err), wanted)
 	is(t, err, context.DeadlineExceeded)
 	took := time.Since(before)
-	same(t, took >= 300*time.Millisecond && took < 1300*time.Millisecond, true)
+	trial.Took(t, took, 300*time.Millisecond, 1300*time.Millisecond)
 	same(t, len(votes.stood), 1)
 }
 
@@ -202,17 +208,21 @@ func TestALockAcrossHostsIsTakenOnceTheHolderIsNotPresent(t *testing.T) {
 }
 
 func TestWhoIsNotPresentIsGoneInTwoSeconds(t *testing.T) {
+	trial.Tried(t, testWhoIsNotPresentIsGoneInTwoSeconds)
+}
+
+func testWhoIsNotPresentIsGoneInTwoSeconds(t *testing.T) {
 	ring, _, votes, _ := across(t, otherHost)
 	votes.lead(5, 1, bidSpread)
 	before := time.Now()
 	must(t, acrossOf(t, ring, LockOptions{Patience: time.Minute}).TryAcquire(background(t)))
 	took := time.Since(before)
-	same(t, took >= 2*time.Second && took < 3*time.Second, true)
+	trial.Took(t, took, 2*time.Second, 3*time.Second)
 	// Where an operator stood nobody is.
 	votes.lead(7, 1, 7)
 	before = time.Now()
 	must(t, acrossOf(t, ring, LockOptions{Patience: time.Minute}).TryAcquire(background(t)))
-	same(t, time.Since(before) < time.Second, true)
+	trial.Took(t, time.Since(before), 0, time.Second)
 	// The context may be over before.
 	votes.lead(9, 1, bidSpread)
 	ctx, cancel := context.WithTimeout(background(t), 200*time.Millisecond)
@@ -221,7 +231,7 @@ func TestWhoIsNotPresentIsGoneInTwoSeconds(t *testing.T) {
 	is(t, acrossOf(t, ring, LockOptions{Patience: time.Minute}).Acquire(ctx), context.DeadlineExceeded)
 	_, _, err := acrossOf(t, ring, LockOptions{Patience: time.Minute}).Holder(ctx)
 	is(t, err, context.DeadlineExceeded)
-	same(t, time.Since(before) < time.Second, true)
+	trial.Took(t, time.Since(before), 0, time.Second)
 }
 
 func TestASessionIsAskedOver(t *testing.T) {
@@ -259,6 +269,10 @@ func TestASessionThatBreaksOffIsOpenedAnew(t *testing.T) {
 }
 
 func TestAPresenceEndsAtOnce(t *testing.T) {
+	trial.Tried(t, testAPresenceEndsAtOnce)
+}
+
+func testAPresenceEndsAtOnce(t *testing.T) {
 	ring, nodes, votes, _ := across(t, otherHost)
 	presence, led := presenceOf(t, ring, votes)
 	presence.close()
@@ -278,7 +292,7 @@ func TestAPresenceEndsAtOnce(t *testing.T) {
 		before := time.Now()
 		presence.close()
 		presence.close()
-		same(t, time.Since(before) < time.Second, true)
+		trial.Took(t, time.Since(before), 0, time.Second)
 	}
 }
 
@@ -413,6 +427,10 @@ func TestAStatusPortThatIsAwayIsWaitedFor(t *testing.T) {
 }
 
 func TestWhoIsPresent(t *testing.T) {
+	trial.Tried(t, testWhoIsPresent)
+}
+
+func testWhoIsPresent(t *testing.T) {
 	ring, nodes, votes, _ := across(t, otherHost)
 	known := Led{5, Leader{1, 7}}
 	looks := func(wanted bool, limit time.Duration) {
@@ -439,7 +457,7 @@ func TestWhoIsPresent(t *testing.T) {
 	votes.lead(6, 1, 8)
 	before := time.Now()
 	looks(false, time.Minute)
-	same(t, time.Since(before) < time.Second, true)
+	trial.Took(t, time.Since(before), 0, time.Second)
 	ctx, cancel := context.WithTimeout(background(t), 100*time.Millisecond)
 	defer cancel()
 	for group, known := range map[string]Led{"red": {7, Leader{1, 7}}, "blue": {5, Leader{1, 7}}} {
@@ -494,6 +512,10 @@ func TestWorkAcrossHostsEndsOnceTheLockIsLost(t *testing.T) {
 }
 
 func TestALockAcrossHostsIsTakenAsSoonAsTheHolderResigns(t *testing.T) {
+	trial.Tried(t, testALockAcrossHostsIsTakenAsSoonAsTheHolderResigns)
+}
+
+func testALockAcrossHostsIsTakenAsSoonAsTheHolderResigns(t *testing.T) {
 	ring, nodes, votes, told := acrossResigns(t)
 	first := acrossOf(t, ring, LockOptions{})
 	must(t, first.Acquire(background(t)))
@@ -504,7 +526,8 @@ func TestALockAcrossHostsIsTakenAsSoonAsTheHolderResigns(t *testing.T) {
 	before := time.Now()
 	first.Resign()
 	must(t, <-ended)
-	same(t, []any{second.Term(), time.Since(before) < absentLimit-500*time.Millisecond}, []any{2, true})
+	trial.Took(t, time.Since(before), 0, absentLimit-500*time.Millisecond)
+	same(t, second.Term(), 2)
 	same(t, nodes[led.Leader.Node-1].lines("resign"), []string{"resign red 1"})
 	// It is looked for no more often than once where nothing changes.
 	same(t, len(told.all()) < 6, true)
@@ -568,6 +591,10 @@ func TestWhoEndsAcrossHostsWithoutAWordMayComeBack(t *testing.T) {
 }
 
 func TestAResignThatIsNotAnsweredEndsAllTheSame(t *testing.T) {
+	trial.Tried(t, testAResignThatIsNotAnsweredEndsAllTheSame)
+}
+
+func testAResignThatIsNotAnsweredEndsAllTheSame(t *testing.T) {
 	ring, nodes, votes, _ := across(t, otherHost)
 	presence, led := presenceOf(t, ring, votes)
 	must(t, presence.show(background(t), led))
@@ -581,7 +608,7 @@ func TestAResignThatIsNotAnsweredEndsAllTheSame(t *testing.T) {
 	before := time.Now()
 	presence.close()
 	took := time.Since(before)
-	same(t, took < farewellLimit+500*time.Millisecond, true)
+	trial.Took(t, took, 0, farewellLimit+500*time.Millisecond)
 	same(t, nodes[0].lines("resign"), []string{"resign red 1"})
 }
 

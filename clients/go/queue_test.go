@@ -12,6 +12,8 @@ import (
 	"syscall"
 	"testing"
 	"time"
+
+	"cinoweta/internal/trial"
 )
 
 // A caller speaks to a beacon in lines.
@@ -143,6 +145,7 @@ func TestLinesThatABeaconDoesNotKeep(t *testing.T) {
 }
 
 func TestWhoWaitsInLineIsNotPushedOut(t *testing.T) {
+	trial.NeedsDescriptors(t, 1_200)
 	beacon := beaconOf(t)
 	waiters := []*caller{}
 	for place := range make([]struct{}, mostWaiters) {
@@ -166,6 +169,10 @@ func TestWhoWaitsInLineIsNotPushedOut(t *testing.T) {
 }
 
 func TestWhoWaitsInLineAndIsSilentIsLetGo(t *testing.T) {
+	trial.Tried(t, testWhoWaitsInLineAndIsSilentIsLetGo)
+}
+
+func testWhoWaitsInLineAndIsSilentIsLetGo(t *testing.T) {
 	beacon := beaconOf(t)
 	before, silent, asks := time.Now(), call(t, beacon), call(t, beacon)
 	silent.wait(t, beacon, 5, 0, "")
@@ -177,11 +184,15 @@ func TestWhoWaitsInLineAndIsSilentIsLetGo(t *testing.T) {
 	asks.hears(t, fmt.Sprint(beacon.bid()))
 	silent.hears(t, "")
 	took := time.Since(before)
-	same(t, took >= silentLimit && took < silentLimit+time.Second, true)
+	trial.Took(t, took, silentLimit, silentLimit+time.Second)
 	asks.hears(t, "place 1")
 }
 
 func TestWhoIsToldTheEndDoesNotHoldItUp(t *testing.T) {
+	trial.Tried(t, testWhoIsToldTheEndDoesNotHoldItUp)
+}
+
+func testWhoIsToldTheEndDoesNotHoldItUp(t *testing.T) {
 	beacon := beaconOf(t)
 	waiter := call(t, beacon)
 	waiter.wait(t, beacon, 5, 0, "")
@@ -192,7 +203,7 @@ func TestWhoIsToldTheEndDoesNotHoldItUp(t *testing.T) {
 	before := time.Now()
 	same(t, beacon.close(), 5)
 	same(t, beacon.close(), 0)
-	same(t, time.Since(before) < time.Second, true)
+	trial.Took(t, time.Since(before), 0, time.Second)
 	waiter.hears(t, "turn")
 }
 
@@ -220,6 +231,10 @@ func leads(t *testing.T, votes *votes) *beacon {
 }
 
 func TestLocksAreHeldInTheOrderInWhichTheyAreWaitedFor(t *testing.T) {
+	trial.Tried(t, testLocksAreHeldInTheOrderInWhichTheyAreWaitedFor)
+}
+
+func testLocksAreHeldInTheOrderInWhichTheyAreWaitedFor(t *testing.T) {
 	ring, _, votes := elected(t)
 	holder := leads(t, votes)
 	locks, ended := inLine(t, ring, holder, 5)
@@ -227,7 +242,8 @@ func TestLocksAreHeldInTheOrderInWhichTheyAreWaitedFor(t *testing.T) {
 	for place, lock := range locks {
 		before := time.Now()
 		must(t, <-ended[place])
-		same(t, []any{lock.Term(), time.Since(before) < askEvery}, []any{2 + place, true})
+		trial.Took(t, time.Since(before), 0, askEvery)
+		same(t, lock.Term(), 2+place)
 		for _, end := range ended[place+1:] {
 			same(t, len(end), 0)
 		}
@@ -240,6 +256,10 @@ func TestLocksAreHeldInTheOrderInWhichTheyAreWaitedFor(t *testing.T) {
 }
 
 func TestWhoGaveALockBackComesLast(t *testing.T) {
+	trial.Tried(t, testWhoGaveALockBackComesLast)
+}
+
+func testWhoGaveALockBackComesLast(t *testing.T) {
 	ring, _, _ := elected(t)
 	first := lockOf(t, ring, LockOptions{Text: "again"})
 	must(t, first.Acquire(background(t)))
@@ -261,7 +281,7 @@ func TestWhoGaveALockBackComesLast(t *testing.T) {
 	first.Resign()
 	before := time.Now()
 	must(t, first.Acquire(background(t)))
-	same(t, time.Since(before) < askEvery, true)
+	trial.Took(t, time.Since(before), 0, askEvery)
 	waiter := call(t, first.sign.(*beacon))
 	waiter.wait(t, first.sign.(*beacon), 5, 0, "")
 	waiter.hears(t, "place 1")
@@ -269,10 +289,14 @@ func TestWhoGaveALockBackComesLast(t *testing.T) {
 	before = time.Now()
 	must(t, first.Acquire(background(t)))
 	took := time.Since(before)
-	same(t, took >= grace && took < grace+askEvery, true)
+	trial.Took(t, took, grace, grace+askEvery)
 }
 
 func TestWhoIsFirstInLineOfAHolderThatIsKilledComesNext(t *testing.T) {
+	trial.Tried(t, testWhoIsFirstInLineOfAHolderThatIsKilledComesNext)
+}
+
+func testWhoIsFirstInLineOfAHolderThatIsKilledComesNext(t *testing.T) {
 	ring, _, votes := elected(t)
 	holder := leads(t, votes)
 	locks, ended := inLine(t, ring, holder, 2)
@@ -284,7 +308,7 @@ func TestWhoIsFirstInLineOfAHolderThatIsKilledComesNext(t *testing.T) {
 	}
 	holder.mutex.Unlock()
 	must(t, <-ended[0])
-	same(t, time.Since(before) < askEvery, true)
+	trial.Took(t, time.Since(before), 0, askEvery)
 	time.Sleep(grace)
 	same(t, []int{locks[0].Term(), len(ended[1])}, []int{2, 0})
 	locks[0].Resign()
@@ -312,6 +336,10 @@ func standsIn(t *testing.T, votes *votes, handle func(conn net.Conn, line string
 }
 
 func TestWhoIsNotFirstInLineOfAHolderThatIsKilledWaitsForAMoment(t *testing.T) {
+	trial.Tried(t, testWhoIsNotFirstInLineOfAHolderThatIsKilledWaitsForAMoment)
+}
+
+func testWhoIsNotFirstInLineOfAHolderThatIsKilledWaitsForAMoment(t *testing.T) {
 	for place, least := range map[int]time.Duration{1: 0, 2: grace} {
 		place := place
 		ring, _, votes := elected(t)
@@ -333,11 +361,15 @@ func TestWhoIsNotFirstInLineOfAHolderThatIsKilledWaitsForAMoment(t *testing.T) {
 		close(ready)
 		must(t, lockOf(t, ring, LockOptions{}).Acquire(background(t)))
 		took := time.Since(<-killed)
-		same(t, took >= least && took < least+askEvery, true)
+		trial.Took(t, took, least, least+askEvery)
 	}
 }
 
 func TestAHolderThatIsPausedIsGoneForWhoWaitsInLine(t *testing.T) {
+	trial.Tried(t, testAHolderThatIsPausedIsGoneForWhoWaitsInLine)
+}
+
+func testAHolderThatIsPausedIsGoneForWhoWaitsInLine(t *testing.T) {
 	ring, _, votes := elected(t)
 	var paused atomic.Bool
 	var waits atomic.Int32
@@ -357,7 +389,7 @@ func TestAHolderThatIsPausedIsGoneForWhoWaitsInLine(t *testing.T) {
 	time.AfterFunc(2500*time.Millisecond, func() { paused.Store(true) })
 	must(t, <-ended)
 	took := time.Since(before)
-	same(t, took > 3*time.Second && took < 5500*time.Millisecond, true)
+	trial.Took(t, took, 3*time.Second, 5500*time.Millisecond)
 	// It was asked over the connection that was kept.
 	same(t, waits.Load(), 1)
 }
@@ -398,6 +430,10 @@ func TestWhoWasPausedMissedNoAnswer(t *testing.T) {
 }
 
 func TestABeaconWithoutALineIsAskedOnceASecond(t *testing.T) {
+	trial.Tried(t, testABeaconWithoutALineIsAskedOnceASecond)
+}
+
+func testABeaconWithoutALineIsAskedOnceASecond(t *testing.T) {
 	ring, _, votes := elected(t)
 	var asked atomic.Int32
 	listener := standsIn(t, votes, func(conn net.Conn, line string) {
@@ -415,16 +451,21 @@ func TestABeaconWithoutALineIsAskedOnceASecond(t *testing.T) {
 	before := time.Now()
 	listener.Close()
 	must(t, <-ended)
-	same(t, []any{lock.Term(), time.Since(before) < 1500*time.Millisecond}, []any{2, true})
+	trial.Took(t, time.Since(before), 0, 1500*time.Millisecond)
+	same(t, lock.Term(), 2)
 }
 
 func TestWhoWaitsInLineLeavesItWithItsContext(t *testing.T) {
+	trial.Tried(t, testWhoWaitsInLineLeavesItWithItsContext)
+}
+
+func testWhoWaitsInLineLeavesItWithItsContext(t *testing.T) {
 	ring, _, votes := elected(t)
 	holder := leads(t, votes)
 	ctx, cancel := context.WithTimeout(background(t), 300*time.Millisecond)
 	defer cancel()
 	before := time.Now()
 	as[*LockTakenError](t, lockOf(t, ring, LockOptions{}).Acquire(ctx))
-	same(t, time.Since(before) < time.Second, true)
+	trial.Took(t, time.Since(before), 0, time.Second)
 	until(t, "an empty line", func() bool { return holder.tellWaiters() == "waiters 0" })
 }

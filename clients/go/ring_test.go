@@ -11,6 +11,8 @@ import (
 	"syscall"
 	"testing"
 	"time"
+
+	"cinoweta/internal/trial"
 )
 
 func TestAnotherNodeIsAskedWhereOneDoesNotAnswer(t *testing.T) {
@@ -29,6 +31,10 @@ func TestAStandStaysWithItsNode(t *testing.T) {
 }
 
 func TestAQuestionIsAskedForNoLongerThanItsTimeout(t *testing.T) {
+	trial.Tried(t, testAQuestionIsAskedForNoLongerThanItsTimeout)
+}
+
+func testAQuestionIsAskedForNoLongerThanItsTimeout(t *testing.T) {
 	ring, nodes := beside(t, deaf, deaf)
 	ring.Timeout = 1500 * time.Millisecond
 	asks := func(answer answer, place int) {
@@ -39,9 +45,7 @@ func TestAQuestionIsAskedForNoLongerThanItsTimeout(t *testing.T) {
 		_, _, err := ring.Latest(background(t), "red", place)
 		as[*NoAnswerError](t, err)
 		took := time.Since(before)
-		if took < 1400*time.Millisecond || took > 1900*time.Millisecond {
-			t.Fatalf("it took %v", took)
-		}
+		trial.Took(t, took, 1400*time.Millisecond, 1900*time.Millisecond)
 	}
 	silent := never(t)
 	asks(silent, 1)
@@ -59,6 +63,10 @@ func TestAQuestionIsAskedForNoLongerThanItsTimeout(t *testing.T) {
 }
 
 func TestAConnectionThatComesLateLeavesLessForTheAnswer(t *testing.T) {
+	trial.Tried(t, testAConnectionThatComesLateLeavesLessForTheAnswer)
+}
+
+func testAConnectionThatComesLateLeavesLessForTheAnswer(t *testing.T) {
 	leavesNone(t)
 	listener, err := net.Listen("tcp", address(ownHost, 0))
 	must(t, err)
@@ -81,7 +89,7 @@ func TestAConnectionThatComesLateLeavesLessForTheAnswer(t *testing.T) {
 	_, _, err = ring.Latest(background(t), "red", 1)
 	as[*NoAnswerError](t, err)
 	took := time.Since(before)
-	same(t, took > 1400*time.Millisecond && took < 1900*time.Millisecond, true)
+	trial.Took(t, took, 1400*time.Millisecond, 1900*time.Millisecond)
 }
 
 func TestAlreadyIsOfAnotherProcess(t *testing.T) {
@@ -157,6 +165,10 @@ func TestALateAnswerIsNotThatOfAnotherLine(t *testing.T) {
 }
 
 func TestAQuestionThatWasLeftEndsItsSession(t *testing.T) {
+	trial.Tried(t, testAQuestionThatWasLeftEndsItsSession)
+}
+
+func testAQuestionThatWasLeftEndsItsSession(t *testing.T) {
 	ring, nodes := beside(t, always("none"), deaf)
 	_, _, err := ring.Latest(background(t), "blue", 1)
 	must(t, err)
@@ -167,7 +179,7 @@ func TestAQuestionThatWasLeftEndsItsSession(t *testing.T) {
 	_, _, err = ring.Latest(ctx, "red", 1)
 	as[*NoAnswerError](t, err)
 	is(t, err, context.Canceled)
-	same(t, time.Since(before) < 2*time.Second, true)
+	trial.Took(t, time.Since(before), 0, 2*time.Second)
 	same(t, ring.session == nil, true)
 	nodes[0].is(always("none"))
 	_, isKnown, err := ring.Latest(background(t), "blue", 1)
@@ -193,6 +205,10 @@ func TestASessionIsEndedOnceNothingIsAskedOverIt(t *testing.T) {
 }
 
 func TestOneWaitsForTheOtherUntilItsContextEnds(t *testing.T) {
+	trial.Tried(t, testOneWaitsForTheOtherUntilItsContextEnds)
+}
+
+func testOneWaitsForTheOtherUntilItsContextEnds(t *testing.T) {
 	ring, nodes := beside(t, always("none"), deaf)
 	var asks sync.WaitGroup
 	for range make([]struct{}, 20) {
@@ -218,7 +234,7 @@ func TestOneWaitsForTheOtherUntilItsContextEnds(t *testing.T) {
 	before := time.Now()
 	_, _, err := ring.Latest(ctx, "red", 1)
 	is(t, err, context.DeadlineExceeded)
-	same(t, time.Since(before) < 2*time.Second, true)
+	trial.Took(t, time.Since(before), 0, 2*time.Second)
 	leave()
 	asks.Wait()
 }

@@ -10,6 +10,8 @@ import (
 	"syscall"
 	"testing"
 	"time"
+
+	"cinoweta/internal/trial"
 )
 
 // usual is the capacity of a ring where none is said.
@@ -128,6 +130,8 @@ func TestOfManyThatCampaignAtOnceOneLeads(t *testing.T) {
 func TestAKillOfRingdIsOutlived(t *testing.T) {
 	served := serve(t, usual)
 	ring := served.ring(t)
+	// How long a start takes is for the machine to say.
+	ring.Timeout = time.Minute
 	election, err := ring.Campaign(background(t), "red", CampaignOptions{})
 	must(t, err)
 	served.Kill()
@@ -380,6 +384,10 @@ func TestLocksOfPythonAndOfGoExcludeEachOther(t *testing.T) {
 
 // A waiter in Python waits in line at a beacon in Go, and the other way round.
 func TestWhoWaitsInPythonAndInGoComesNext(t *testing.T) {
+	trial.Tried(t, testWhoWaitsInPythonAndInGoComesNext)
+}
+
+func testWhoWaitsInPythonAndInGoComesNext(t *testing.T) {
 	served := serve(t, usual)
 	ring := served.ring(t)
 	lock, second := NewLock(ring, "red", LockOptions{}), NewLock(served.ring(t), "red", LockOptions{Text: "a job in Go"})
@@ -405,7 +413,8 @@ func TestWhoWaitsInPythonAndInGoComesNext(t *testing.T) {
 	before := time.Now()
 	python.signal(t, syscall.SIGTERM)
 	must(t, <-ended)
-	same(t, []any{second.Term(), time.Since(before) < 5*time.Second}, []any{3, true})
+	trial.Took(t, time.Since(before), 0, 5*time.Second)
+	same(t, second.Term(), 3)
 }
 
 // serveAcross serves a ring of another host, which ends the session of a silent client.

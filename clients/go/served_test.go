@@ -109,7 +109,7 @@ func (s served) python(t *testing.T, words ...string) *program {
 	t.Helper()
 	path, err := exec.LookPath("python3")
 	if err != nil {
-		t.Skip(err)
+		t.Skip("for want of python3")
 	}
 	command := exec.Command(path, append([]string{"-m", "cinoweta"}, words...)...)
 	command.Dir = filepath.Join("..", "python")
@@ -151,7 +151,7 @@ func (p *program) read(reader io.ReadCloser) {
 // tells waits until the program tells a line that begins so, and gives it.
 func (p *program) tells(t *testing.T, begin string) string {
 	t.Helper()
-	told, late := []string{}, time.After(30*time.Second)
+	told, late := []string{}, time.After(60*time.Second)
 	for {
 		select {
 		case line, isTold := <-p.lines:
@@ -184,7 +184,7 @@ func (p *program) signal(t *testing.T, number syscall.Signal) {
 // until waits until it is so.
 func until(t *testing.T, what string, isSo func() bool) {
 	t.Helper()
-	for late := time.Now().Add(30 * time.Second); !isSo(); time.Sleep(50 * time.Millisecond) {
+	for late := time.Now().Add(60 * time.Second); !isSo(); time.Sleep(50 * time.Millisecond) {
 		if time.Now().After(late) {
 			t.Fatal("it never came: " + what)
 		}

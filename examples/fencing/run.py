@@ -13,7 +13,6 @@ nothing else. Status 1 where it was not so, or did not come so far in 60 seconds
 """
 import os
 import queue
-import random
 import signal
 import subprocess
 import sys
@@ -23,6 +22,9 @@ import time
 
 HERE = os.path.dirname(os.path.abspath(__file__))
 ROOT = os.path.dirname(os.path.dirname(HERE))
+sys.path.append(os.path.join(ROOT, "tests"))
+from ports import free_ports
+
 SECONDS = 60.0
 # How many jobs a leader writes before the next thing happens.
 JOBS = 3
@@ -54,7 +56,7 @@ class Play:
         os.mkdir(os.path.join(self.folder, "ring"))
         settings = os.path.join(self.folder, "ring.toml")
         for _ in range(10):
-            port = random.randrange(20_000, 32_000)
+            port = free_ports(3)
             with open(settings, "w", encoding="ascii") as file:
                 file.write(f'nodes = 3\ndir = "{self.folder}/ring"\nport = {port}\n')
             process = self.start(self.ringd, "--settings", settings, "--serve", "1000")

@@ -1,16 +1,20 @@
 """A server of lines in place of a node, which answers as it is told."""
 import contextlib
 import os
-import random
+import pathlib
 import signal
 import socket
 import socketserver
+import sys
 import threading
 import time
 import unittest
 from collections.abc import Callable
 
 from cinoweta import Cancelled, Lock, Resigned
+
+sys.path.append(str(pathlib.Path(__file__).resolve().parents[3] / "tests"))
+from ports import Ports
 
 
 def fork_idle(test: unittest.TestCase) -> None:
@@ -83,14 +87,15 @@ class Session(socketserver.StreamRequestHandler):
 def serve(*answers: Callable[[str], str | None], host: str = "127.0.0.1") -> list[Node]:
     """A node for each of these, at ports that lie side by side."""
     for _ in range(100):
-        first, nodes = random.randrange(20_000, 32_000), []
-        try:
-            for place, answer in enumerate(answers):
-                nodes.append(Node(answer, first + place, host))
-            return nodes
-        except OSError:
-            for node in nodes:
-                node.end()
+        nodes: list[Node] = []
+        with Ports(len(answers)) as ports:
+            try:
+                for place, answer in enumerate(answers):
+                    nodes.append(Node(answer, ports.first + place, host))
+                return nodes
+            except OSError:
+                for node in nodes:
+                    node.end()
     raise OSError("no free ports")
 
 

@@ -1,13 +1,15 @@
 """A ring of a real ringd, in a temporary folder: the program of RINGD, or bin/ringd."""
 import os
 import pathlib
-import random
 import shutil
 import subprocess
 import sys
 import tempfile
 
 HERE = pathlib.Path(__file__).resolve().parent
+sys.path.append(str(HERE.parents[2] / "tests"))
+from ports import Ports
+
 RINGD = pathlib.Path(os.environ.get("RINGD", HERE.parents[2] / "bin" / "ringd")).resolve()
 
 
@@ -24,12 +26,16 @@ class Served:
         self.words, self.capacity = words or ("--doors", "4"), capacity
         self.folder = tempfile.mkdtemp(prefix="cinoweta-")
         os.mkdir(f"{self.folder}/ring")
-        self.first = 0
         self.process: "subprocess.Popen[str] | None" = None
         for _ in range(20):
-            self.first = random.randrange(20_000, 32_000)
+            # Kept for it while it is away.
+            self.kept = Ports(4)
+            self.first = self.kept.first
             if self.start():
                 return
+            self.kill()
+            self.kept.close()
+        self.end()
         raise RuntimeError("ringd does not serve")
 
     def start(self) -> bool:
@@ -49,6 +55,7 @@ class Served:
 
     def end(self) -> None:
         self.kill()
+        self.kept.close()
         shutil.rmtree(self.folder, ignore_errors=True)
 
     @property

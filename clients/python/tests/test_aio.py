@@ -12,6 +12,7 @@ from cinoweta import (AlreadyStands, Election, Holder, Leader, Led, Lock, LockTa
 from cinoweta.aio import AsyncLock, AsyncRing, holder, waiters
 from cinoweta.waiting import is_there
 
+from .clock import PATIENCE
 from .lines import Groups, Node, Votes, first, fork_idle, serve
 from .test_presence import Told
 from .test_ring import deaf
@@ -40,7 +41,7 @@ class AioTest(unittest.IsolatedAsyncioTestCase, BesideStatus):
         return ring, nodes
 
     async def until(self, is_so: object) -> None:
-        until = time.monotonic() + 10.0
+        until = time.monotonic() + PATIENCE
         while not is_so():
             self.assertLess(time.monotonic(), until)
             await asyncio.sleep(0.005)

@@ -19,6 +19,7 @@ from cinoweta.looks import Looks
 from cinoweta.process import run
 from cinoweta.waiting import HANDED, is_there
 
+from .clock import PATIENCE, took, tried
 from .lines import Groups, Node, Votes, fork_idle
 from .test_ring import Beside, deaf
 
@@ -42,7 +43,7 @@ class BesideLock(Beside):
         return self.held[-1]
 
     def until(self, is_so: object) -> None:
-        until = time.monotonic() + 10.0
+        until = time.monotonic() + PATIENCE
         while not is_so():
             self.assertLess(time.monotonic(), until)
             time.sleep(0.005)
@@ -95,6 +96,7 @@ class ThreadsTest(BesideLock):
         thread.join(5.0)
         self.assertEqual((faults, nodes[0].lines, ring.session), ([], ["latest red"], None))
 
+    @tried
     def test_who_is_resigned_while_it_waits_does_not_hold_it(self) -> None:
         ring, _ = self.votes_ring()
         first, second = self.lock(ring), self.lock(ring)
@@ -106,7 +108,7 @@ class ThreadsTest(BesideLock):
         second.resign()
         thread.join(5.0)
         self.assertEqual(([type(fault) for fault in faults], second.is_lost(), second.term), ([Resigned], True, 0))
-        self.assertLess(time.monotonic() - before, 1.0)
+        took(before, 1.0)
         # Nor where it was resigned between its election and its end.
         first.resign()
         run = mock.AsyncMock(side_effect=lambda *_words: (second.resign(), mock.Mock(is_mine=True, term=9))[1])
@@ -114,6 +116,7 @@ class ThreadsTest(BesideLock):
             second.acquire()
         self.assertEqual((second.is_lost(), second.term), (True, 0))
 
+    @tried
     def test_a_wait_is_cancelled(self) -> None:
         ring, nodes = self.votes_ring()
         first, second, cancel = self.lock(ring), self.lock(ring), threading.Event()
@@ -126,7 +129,7 @@ class ThreadsTest(BesideLock):
             before = time.monotonic()
             cancel.set()
             thread.join(10.0)
-            self.assertLess(time.monotonic() - before, 1.0)
+            took(before, 1.0)
             self.assertEqual(([type(fault) for fault in faults], second.sign, second.term), ([Cancelled], None, 0))
         nodes[0].answer = nodes[1].answer = self.votes
         first.resign()
@@ -173,6 +176,7 @@ class ForkTest(BesideLock):
         self.in_a_child(act)
         self.assertEqual((lock.is_lost(), lock.term, is_there(bid, 1.0)), (False, 1, True))
 
+    @tried
     def test_who_waits_is_told_at_once_of_the_end_of_one_that_forked(self) -> None:
         # Its port is not open in the child, which would answer nobody.
         code = ("import os, time\nfrom cinoweta.beacon import Beacon\nbeacon = Beacon(0, '')\nchild = os.fork()\n"
@@ -186,7 +190,7 @@ class ForkTest(BesideLock):
         process.stdout.close()
         before = time.monotonic()
         self.assertFalse(is_there(bid, 3.0))
-        self.assertLess(time.monotonic() - before, 1.0)
+        took(before, 1.0)
 
     def test_a_child_keeps_no_session_of_its_parent_open(self) -> None:
         ring, nodes = self.votes_ring()
@@ -363,6 +367,7 @@ class LossTest(BesideLock):
         self.until(lambda: lock.is_lost())
         self.until(lambda: not ring.looks.held)
 
+    @tried
     def test_many_locks_at_a_ring_that_is_away_are_looked_at_within_a_second(self) -> None:
         ring, nodes = self.votes_ring(timeout=10.0)
         locks = [self.lock(ring, give_up=60.0) for _ in range(20)]
@@ -376,7 +381,7 @@ class LossTest(BesideLock):
             lock.asked -= 5.0
         before = time.monotonic()
         self.assertEqual([lock.is_lost() for lock in locks], [False] * 20)
-        self.assertLess(time.monotonic() - before, 1.6)
+        took(before, 1.6)
 
     def test_locks_for_which_one_look_has_no_time_are_looked_at_in_turn(self) -> None:
         groups, names = Groups(), ["red", "blue", "green", "grey", "pink", "teal"]
@@ -406,6 +411,7 @@ class LossTest(BesideLock):
                 groups.votes["blue"].leaders[2] = (2, 9)
                 self.until(lambda: told)
 
+    @tried
     def test_who_is_cut_off_gives_up(self) -> None:
         ring, nodes = self.votes_ring(timeout=0.2)
         with mock.patch("cinoweta.locking.EVERY", 0.05), mock.patch("cinoweta.looks.EVERY", 0.05):
@@ -421,7 +427,7 @@ class LossTest(BesideLock):
             while not lock.is_lost():
                 self.assertLess(time.monotonic() - before, 5.0)
                 time.sleep(0.02)
-            self.assertTrue(0.8 < time.monotonic() - before < 2.0)
+            took(before, 2.0, 0.8)
             self.until(lambda: told)
             nodes[0].answer = nodes[1].answer = self.votes
             other.acquire()
@@ -443,6 +449,7 @@ class LossTest(BesideLock):
         self.assertTrue(blue.is_lost())
         thread.join(5.0)
 
+    @tried
     def test_a_name_that_is_not_found_bounds_no_look(self) -> None:
         ring, _ = self.votes_ring()
         near, ends, find, names = Ring(ring.first, ring.ports[-1], host="localhost"), threading.Event(), socket.getaddrinfo, []
@@ -464,12 +471,13 @@ class LossTest(BesideLock):
             before = time.monotonic()
             while not locks[0].is_lost() or not told:
                 time.sleep(0.1)
-            self.assertLess(time.monotonic() - before, 3.0)
+            took(before, 3.0)
             # All wait for one.
             self.assertEqual(len(names), 1)
             with self.assertRaisesRegex(NoAnswer, "localhost is not found in time"):
                 status.ask("localhost", 1, "/health", 0.1)
 
+    @tried
     def test_the_command_is_ended_where_it_gives_up(self) -> None:
         ring, nodes = self.votes_ring()
         words = ["--ring", f"{ring.first}-{ring.ports[-1]}", "lock", "--give-up", "1", "red", "--", "sleep", "60"]
@@ -481,7 +489,7 @@ class LossTest(BesideLock):
         before = time.monotonic()
         with contextlib.redirect_stderr(io.StringIO()) as err, mock.patch("cinoweta.lock.run", run_cut_off):
             self.assertEqual(main(words), 5)
-        self.assertLess(time.monotonic() - before, 8.0)
+        took(before, 8.0)
         self.assertIn("term 1 is over: no node answered for 1.0 seconds", err.getvalue())
 
 
@@ -563,6 +571,7 @@ class WordsTest(BesideLock):
 
 
 class BoundTest(BesideLock):
+    @tried
     def test_the_wait_bounds_a_ring_that_elects_nobody(self) -> None:
         # As a full one does, which takes Stands at another node.
         self.votes.elects = False
@@ -571,16 +580,17 @@ class BoundTest(BesideLock):
             before = time.monotonic()
             with self.assertRaises((NoLeader, NoAnswer)):
                 self.lock(ring, wait=wait).acquire()
-            self.assertTrue(wait <= time.monotonic() - before < most, wait)
+            took(before, most, wait, what=wait)
         with mock.patch("cinoweta.locking.SECONDS", 0.1), self.assertRaisesRegex(NoLeader, "in 3 terms"):
             self.lock(ring, wait=0.0).acquire()
 
+    @tried
     def test_the_wait_bounds_nodes_that_do_not_answer(self) -> None:
         ring, _ = self.ring(deaf, lambda _line: time.sleep(30.0), timeout=10.0)
         before = time.monotonic()
         with self.assertRaises(NoAnswer):
             self.lock(ring, wait=3.0).acquire()
-        self.assertTrue(2.5 <= time.monotonic() - before < 6.0)
+        took(before, 6.0, 2.5)
 
 
 class RoomTest(BesideLock):

@@ -15,6 +15,7 @@ from cinoweta.command import main
 from cinoweta.host import is_own, place
 from cinoweta.link import connect
 
+from .clock import took, tried
 from .lines import Votes
 from .test_ring import Beside, deaf
 from .test_status import TOLD, BesideStatus
@@ -75,7 +76,7 @@ class HostTest(Beside, BesideStatus):
             Ring(7101, 7103, host="::g")
         self.assertEqual([is_own(host) for host in ("::1", "::", "fd00::5")], [True, False, False])
 
-    @unittest.skipUnless(HAS_IPV6, "this host has no IPv6")
+    @unittest.skipUnless(HAS_IPV6, "for want of IPv6")
     def test_a_ring_at_an_address_of_ipv6(self) -> None:
         votes = Votes()
         votes.leaders[20] = (2, 30)
@@ -96,7 +97,7 @@ class HostTest(Beside, BesideStatus):
         with self.assertRaisesRegex(NoAnswer, rf"\A\[::1\]:{ring.first}: "):
             ring.latest("red")
 
-    @unittest.skipUnless(HAS_IPV6, "this host has no IPv6")
+    @unittest.skipUnless(HAS_IPV6, "for want of IPv6")
     def test_it_is_asked_there_by_tasks(self) -> None:
         async def asked() -> tuple[Led | None, list[str]]:
             async with AsyncRing.parse(f"[::1]:{ring.first}-{ring.ports[-1]}", status=port) as same:
@@ -108,6 +109,7 @@ class HostTest(Beside, BesideStatus):
         port = self.serve({"/health": (503, "node 2 failed\n")}, "::1")
         self.assertEqual(asyncio.run(asked()), (Led(20, Leader(2, 30)), ["node 2 failed"]))
 
+    @tried
     def test_the_addresses_of_a_name_share_the_time(self) -> None:
         given = list[float]()
 
@@ -122,7 +124,7 @@ class HostTest(Beside, BesideStatus):
         with mock.patch("cinoweta.link.look_up", return_value=["10.0.0.5", "10.0.0.6", "10.0.0.7"]), \
                 mock.patch("socket.create_connection", side_effect=silent), self.assertRaises(TimeoutError):
             connect("ring.example", 7101, 0.6)
-        self.assertLess(time.monotonic() - before, 1.0)
+        took(before, 1.0)
         # Who refuses at once leaves its part to the others.
         for seconds, wanted in zip(given, (0.2, 0.3, 0.3), strict=True):
             self.assertAlmostEqual(seconds, wanted, delta=0.1)

@@ -12,6 +12,7 @@ from cinoweta import Lock, LockTaken, Resigned, Waiter, holder, waiters
 from cinoweta.beacon import CLIENTS, RANK, SPREAD, Beacon, port_of
 from cinoweta.waiting import HANDED, is_there
 
+from .clock import PATIENCE, took, tried
 from .lines import Talker, Votes
 from .test_host import told
 from .test_ring import Beside
@@ -135,6 +136,7 @@ class BeaconLineTest(unittest.TestCase):
                 lines.append(each.line())
             self.assertEqual(lines, ["place 1", "place 2", ""])
 
+    @tried
     def test_clients_are_served_side_by_side(self) -> None:
         # Each of these asks nothing. One after the other they would be waited for two minutes.
         waiter = self.kept()
@@ -143,7 +145,7 @@ class BeaconLineTest(unittest.TestCase):
             silent = [self.kept() for _ in range(CLIENTS + 50)]
             before = time.monotonic()
             self.assertTrue(is_there(self.beacon.bid, 1.0))
-            self.assertLess(time.monotonic() - before, 1.0)
+            took(before, 1.0)
             # The first ones were left, by a reset.
             with self.assertRaises(ConnectionResetError):
                 silent[0].line()
@@ -238,7 +240,7 @@ class LineTest(Beside):
         return thread
 
     def until(self, is_so: object) -> None:
-        until = time.monotonic() + 10.0
+        until = time.monotonic() + PATIENCE
         while not is_so():
             self.assertLess(time.monotonic(), until)
             time.sleep(0.005)
@@ -288,6 +290,7 @@ class LineTest(Beside):
         self.until(lambda: order)
         self.assertIs(order[0], high)
 
+    @tried
     def test_the_next_one_is_told_at_once(self) -> None:
         first, second, order = self.lock(), self.lock(), []
         first.acquire()
@@ -298,9 +301,10 @@ class LineTest(Beside):
             before = time.monotonic()
             holder.resign()
             self.until(lambda: order)
-            self.assertLess(time.monotonic() - before, 0.5)
+            took(before, 0.5)
             self.assertIs(order.pop(), waiter)
 
+    @tried
     def test_who_resigned_leaves_the_term_to_who_comes_next_for_a_moment_alone(self) -> None:
         # Who comes next answers, and does not stand.
         following = Beacon(0, "")
@@ -313,14 +317,14 @@ class LineTest(Beside):
             before = time.monotonic()
             HANDED.put(first.key, following.bid if least else 0, first.led)
             again.acquire()
-            self.assertTrue(least < time.monotonic() - before < least + 0.8)
+            took(before, least + 0.8, least)
             again.resign()
         # Nor for one that is not there any more.
         following.close()
         HANDED.put(first.key, following.bid, first.led)
         before = time.monotonic()
         with self.lock():
-            self.assertLess(time.monotonic() - before, 0.9)
+            took(before, 0.9)
 
     def liar(self, part: str, pause: float) -> int:
         """The bid of a beacon of which each client is told this again and again."""
@@ -330,6 +334,7 @@ class LineTest(Beside):
         talker.part = part.format(bid).encode()
         return bid
 
+    @tried
     def test_a_beacon_that_lies_keeps_nobody_waiting_for_ever(self) -> None:
         for part, pause in (("place 1\n" * 1_000, 0.0), ("place 1\nafter {}\n", 0.01), ("x" * 4_096, 0.0)):
             bid = self.liar(part, pause)
@@ -343,10 +348,10 @@ class LineTest(Beside):
                 with contextlib.suppress(LockTaken), lock:
                     # Whoever was told nonsense leads in a term of its own, or not at all.
                     self.assertGreater(lock.term, term)
-                self.assertLess(time.monotonic() - before, 6.0, part[:20])
+                took(before, 6.0, what=part[:20])
             before = time.monotonic()
             self.assertEqual((waiters(self.ring_, "red", 0.5), is_there(bid, 0.5), holder(self.ring_, "red", 0.5)), ([], False, None))
-            self.assertLess(time.monotonic() - before, 6.0, part[:20])
+            took(before, 6.0, what=part[:20])
 
     def test_a_beacon_without_a_line_is_asked_once_a_second(self) -> None:
         first, second, order = self.lock(), self.lock(), []

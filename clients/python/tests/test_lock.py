@@ -21,6 +21,7 @@ from cinoweta.command import main
 from cinoweta.steps import at_once
 from cinoweta.waiting import Here, holder_of, is_there
 
+from .clock import PATIENCE, took, tried
 from .lines import Node, Votes, in_a_child
 from .test_ring import Beside, deaf
 
@@ -67,7 +68,7 @@ class LockTest(Beside):
         return self.held[-1]
 
     def until(self, is_so: object) -> None:
-        until = time.monotonic() + 5.0
+        until = time.monotonic() + PATIENCE
         while not is_so():
             self.assertLess(time.monotonic(), until)
             time.sleep(0.005)
@@ -92,6 +93,7 @@ class LockTest(Beside):
         with held:
             self.assertEqual(held.term, 2)
 
+    @tried
     def test_who_holds_it_is_told_in_time(self) -> None:
         ring, _ = self.votes_ring()
         with self.lock(ring, text="nightly"):
@@ -100,7 +102,7 @@ class LockTest(Beside):
                 with self.assertRaises(LockTaken) as caught, self.lock(ring, wait=wait):
                     pass
                 self.assertRegex(str(caught.exception), rf"\Ared: held by process {os.getpid()} \(nightly\), which")
-                self.assertTrue(wait <= time.monotonic() - before < wait + 1.0)
+                took(before, wait + 1.0, wait)
         self.assertEqual(len(self.votes.stood), 1)
 
     def test_it_is_taken_once_the_holder_resigns(self) -> None:
@@ -124,6 +126,7 @@ class LockTest(Beside):
             self.assertEqual((lock.term, lock.is_lost(), len(self.votes.stood)), (1, False, 1), first)
             self.assertIn("waits for the ring", told[0])
 
+    @tried
     def test_a_ring_that_never_answered_is_waited_for(self) -> None:
         ring, nodes = self.votes_ring(timeout=0.1)
         nodes[0].answer = nodes[1].answer = deaf
@@ -131,7 +134,7 @@ class LockTest(Beside):
         before = time.monotonic()
         with self.assertRaises(NoAnswer):
             lock.acquire()
-        self.assertTrue(0.5 <= time.monotonic() - before < 2.0)
+        took(before, 2.0, 0.5)
         self.assertIsNone(lock.sign)
         told: list[str] = []
         nodes[0].answer = nodes[1].answer = Outage(self.votes, range(1, 12))
@@ -148,13 +151,14 @@ class LockTest(Beside):
             with lock as held:
                 self.assertEqual(held.term, term)
 
+    @tried
     def test_a_ring_that_is_away_is_waited_for_so_long(self) -> None:
         ring, nodes = self.votes_ring(timeout=0.1)
         nodes[0].answer = nodes[1].answer = lambda line: "none" if len(nodes[0].lines) == 1 else None
         before = time.monotonic()
         with self.assertRaises(NoAnswer), self.lock(ring, wait=0.5):
             pass
-        self.assertTrue(0.5 <= time.monotonic() - before < 2.0)
+        took(before, 2.0, 0.5)
 
     def test_a_ring_that_refuses_is_waited_for(self) -> None:
         # A Stand is there or not where the device failed, and the node answers for it once it was started again.
@@ -300,6 +304,7 @@ class BeaconTest(unittest.TestCase):
         for bid in (0, 99_999_999, 10, 999_999_999):
             self.assertFalse(is_there(bid, 0.5), bid)
 
+    @tried
     def test_it_answers_to_its_own_bid_alone(self) -> None:
         beacon = Beacon(3, "ä" * 100)
         self.addCleanup(beacon.close)
@@ -307,7 +312,7 @@ class BeaconTest(unittest.TestCase):
         self.assertTrue(is_there(beacon.bid, 1.0))
         other, before = beacon.bid + (1 if port_of(beacon.bid + 1) == port_of(beacon.bid) else -1), time.monotonic()
         self.assertFalse(is_there(other, 9.0))
-        self.assertLess(time.monotonic() - before, 5.0)
+        took(before, 5.0)
 
     def test_it_goes_on_where_descriptors_were_wanting(self) -> None:
         beacon = Beacon(0, "")
@@ -433,6 +438,7 @@ class ProcessTest(unittest.TestCase):
         self.assertEqual(end_all(sleeps(seconds)), 1)
 
     @unittest.skipUnless(sys.platform == "linux", "no program adopts who lost its parent")
+    @tried
     def test_who_is_left_to_it_is_not_waited_for(self) -> None:
         def adopt() -> None:
             # PR_SET_CHILD_SUBREAPER, as for the first program of a container.
@@ -444,7 +450,7 @@ class ProcessTest(unittest.TestCase):
         begun = time.monotonic()
         process.terminate()
         self.assertEqual((process.stdout.read(), process.wait(10)), ("3\n", 0))
-        self.assertLess(time.monotonic() - begun, 4.0)
+        took(begun, 4.0)
 
     def test_a_terminal_has_one_group(self) -> None:
         own, other = pty.openpty()

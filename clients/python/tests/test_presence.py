@@ -13,6 +13,7 @@ from cinoweta.presence import Presence, gives_up_after
 from cinoweta.status import Sight
 from cinoweta.steps import at_once
 
+from .clock import PATIENCE, took, tried
 from .lines import Node, Votes, Waiter, in_a_child
 from .test_host import OTHER, told
 from .test_ring import Beside, deaf
@@ -83,7 +84,7 @@ class PresenceTest(Beside, BesideStatus):
         return self.held[-1]
 
     def until(self, is_so: object) -> None:
-        until = time.monotonic() + 5.0
+        until = time.monotonic() + PATIENCE
         while not is_so():
             self.assertLess(time.monotonic(), until)
             time.sleep(0.005)
@@ -102,6 +103,7 @@ class PresenceTest(Beside, BesideStatus):
         with held:
             self.assertEqual(held.term, 2)
 
+    @tried
     def test_who_holds_it_is_told_in_time(self) -> None:
         ring, _ = self.votes_ring()
         with self.lock(ring):
@@ -110,7 +112,7 @@ class PresenceTest(Beside, BesideStatus):
                 with self.assertRaises(LockTaken) as caught, self.lock(ring, wait=wait):
                     pass
                 self.assertEqual(str(caught.exception), "red: held by node 1 in term 1")
-                self.assertTrue(wait <= time.monotonic() - before < wait + 1.0)
+                took(before, wait + 1.0, wait)
         self.assertEqual(len(self.votes.stood), 1)
 
     def test_it_is_taken_once_the_holder_is_not_present(self) -> None:
@@ -128,6 +130,7 @@ class PresenceTest(Beside, BesideStatus):
     def test_how_long_who_is_gone_is_waited_for(self) -> None:
         self.assertEqual(presence.ABSENT, 2.0)
 
+    @tried
     def test_who_is_absent_for_two_seconds_is_gone_whatever_the_patience(self) -> None:
         ring, nodes = self.votes_ring()
         for patience, least, most in ((60.0, 1.0, 3.0), (0.0, 0.0, 0.8)):
@@ -135,13 +138,14 @@ class PresenceTest(Beside, BesideStatus):
             with mock.patch("cinoweta.locking.ABSENT", 1.0):
                 before = time.monotonic()
                 self.assertIsNone(holder(ring, "red", patience, across_hosts=True))
-                self.assertTrue(least <= time.monotonic() - before < most, patience)
+                took(before, most, least, what=patience)
                 before = time.monotonic()
                 self.lock(ring, patience=patience).acquire()
-                self.assertTrue(least <= time.monotonic() - before < most, patience)
+                took(before, most, least, what=patience)
             self.held[-1].resign()
             self.until(lambda: not nodes[0].present)
 
+    @tried
     def test_who_gives_up_is_waited_for_so_much_longer(self) -> None:
         self.assertEqual([gives_up_after(Presence(None, "red", 9, "", seconds).bid) for seconds in (None, 0.5, 1.0, 4.0, 600.0)],
                          [0, 1, 1, 5, 600])
@@ -151,7 +155,7 @@ class PresenceTest(Beside, BesideStatus):
         with mock.patch.object(Ring, "present", return_value=Sight(5, *known.leader, False, False, "")):
             before = time.monotonic()
             self.assertFalse(is_there(Ring(7101, 7103, status=7100), "red", known, 0.2))
-            self.assertTrue(1.2 <= time.monotonic() - before < 2.5)
+            took(before, 2.5, 1.2)
 
     def resigning(self) -> tuple[Ring, list[Node], Told]:
         """A ring whose nodes and status port know who resigns, and what holders tell."""
@@ -170,6 +174,7 @@ class PresenceTest(Beside, BesideStatus):
         nodes[0].answer = nodes[1].answer = answer
         return ring, nodes, told
 
+    @tried
     def test_who_waits_is_told_at_once_that_it_resigned(self) -> None:
         ring, nodes, told = self.resigning()
         with mock.patch("cinoweta.locking.ABSENT", 5.0):
@@ -184,7 +189,7 @@ class PresenceTest(Beside, BesideStatus):
             self.assertIn("resign red 1", nodes[0].lines)
             thread.join(10.0)
             # Else it looks once more half a second later, and waits for five.
-            self.assertLess(time.monotonic() - before, 4.0)
+            took(before, 4.0)
             self.assertEqual(second.term, 2)
         self.assertTrue(any("held=1&wait=" in line for line in told.lines))
 
@@ -259,6 +264,7 @@ class PresenceTest(Beside, BesideStatus):
             with self.assertRaises(ValueError):
                 Lock(ring, "red", text=text, across_hosts=True)
 
+    @tried
     def test_a_holder_of_the_other_kind_is_refused_in_words(self) -> None:
         ring, nodes = self.votes_ring("127.0.0.1")
         near = Ring(ring.first, ring.ports[-1])
@@ -285,7 +291,7 @@ class PresenceTest(Beside, BesideStatus):
         for words in ({}, {"across_hosts": False}):
             before = time.monotonic()
             with self.lock(ring, **words):
-                self.assertLess(time.monotonic() - before, 1.0)
+                took(before, 1.0)
             self.until(lambda: not nodes[0].present)
             self.votes.leaders[99] = (1, 7)
 
@@ -422,6 +428,7 @@ class PresenceTest(Beside, BesideStatus):
                 holder(ring, "red", across_hosts=True)
             ring.status = port
 
+    @tried
     def test_what_the_status_port_tells(self) -> None:
         ring, nodes = self.votes_ring()
         known = Led(5, Leader(1, 7))
@@ -437,7 +444,7 @@ class PresenceTest(Beside, BesideStatus):
             nodes[0].present.update([None] * is_present)
             before = time.monotonic()
             self.assertFalse(is_there(ring, "red", known, 9.0))
-            self.assertLess(time.monotonic() - before, 3.0)
+            took(before, 3.0)
         with self.assertRaisesRegex(WrongRing, rf"\A{OTHER}:{ring.status} tells of another leader of red in term 7, or none"):
             is_there(ring, "red", Led(7, Leader(1, 7)), 0.1)
         with self.assertRaises(WrongRing):

@@ -11,6 +11,7 @@ import unittest
 from cinoweta import AlreadyStands, Election, Full, Late, Lock, LockTaken, Retired, Ring, Stale, Undecided, status
 from cinoweta.aio import AsyncLock, AsyncRing, holder
 
+from .clock import PATIENCE, took, tried
 from .served import HERE, Served, require
 
 setUpModule = require
@@ -45,7 +46,7 @@ class ServedTest(unittest.TestCase):
 
     def until(self, is_so: object, what: str) -> None:
         """Waits until it is so."""
-        until = time.monotonic() + 30.0
+        until = time.monotonic() + PATIENCE
         while not is_so():
             self.assertLess(time.monotonic(), until, what)
             time.sleep(0.05)
@@ -288,6 +289,7 @@ class LockTest(LockerTest):
         self.assertEqual(second.stdout.read().splitlines()[-1], "2")
         self.assertEqual(second.wait(10), 0)
 
+    @tried
     def test_the_holder_is_told(self) -> None:
         told = self.served.run("holder", "red")
         self.assertEqual((told.returncode, told.stdout), (1, "none\n"))
@@ -300,7 +302,7 @@ class LockTest(LockerTest):
         ended = self.served.run("lock", "red", "--wait", "0", "--", "echo", "in")
         self.assertEqual((ended.returncode, ended.stdout), (6, ""))
         self.assertRegex(ended.stderr, rf"\Acinoweta: red: waits for .*\ncinoweta: red: held by process {first.pid} ")
-        self.assertLess(time.monotonic() - before, 20.0)
+        took(before, 20.0)
         first.kill()
         self.assertEqual(self.served.run("holder", "red").stdout, "none\n")
 

@@ -12,6 +12,7 @@ from cinoweta.beacon import SPREAD
 from cinoweta.session import Session
 from cinoweta.showing import SHOWERS
 
+from .clock import PATIENCE, took, tried
 from .lines import Groups, Node, in_a_child
 from .test_host import told
 from .test_ring import Beside, deaf
@@ -63,7 +64,7 @@ class ShowingTest(Beside, BesideStatus):
         self.addCleanup(lambda: self.until(lambda: not SHOWERS.places))
 
     def until(self, is_so: object) -> None:
-        until = time.monotonic() + 5.0
+        until = time.monotonic() + PATIENCE
         while not is_so():
             self.assertLess(time.monotonic(), until)
             time.sleep(0.005)
@@ -184,6 +185,7 @@ class ShowingTest(Beside, BesideStatus):
             self.nodes[0].answer = lambda line: "none" if line.startswith("tell ") else self.groups(line)
             self.until(lambda: not self.is_shown("red"))
 
+    @tried
     def test_neither_a_take_nor_a_resign_waits_for_it(self) -> None:
         away = threading.Event()
         self.addCleanup(away.set)
@@ -200,13 +202,13 @@ class ShowingTest(Beside, BesideStatus):
                 before = time.monotonic()
                 lock = self.lock(text="a worker")
                 lock.acquire()
-                self.assertLess(time.monotonic() - before, 2.0)
+                took(before, 2.0)
                 # For whose answer it waits from then on.
                 self.until(lambda: "tell red a worker" in self.nodes[0].lines)
                 time.sleep(0.1)
                 before = time.monotonic()
                 lock.resign()
-                self.assertLess(time.monotonic() - before, 0.5)
+                took(before, 0.5)
         away.set()
 
     def test_a_child_shows_nothing_of_its_parent(self) -> None:

@@ -15,6 +15,8 @@ import (
 	"testing"
 	"time"
 	"unsafe"
+
+	"cinoweta/internal/trial"
 )
 
 // loop is what a shell does for eight seconds, and heeds signals, of whose work in it nothing is told.
@@ -156,12 +158,16 @@ func TestWhatCameBeforeACommandWasBegunIsSentToIt(t *testing.T) {
 
 // Of who is left to this program the system keeps what it ended with, until that is asked for.
 func TestWhatIsLeftToTheProgramIsNotWaitedFor(t *testing.T) {
+	trial.Tried(t, testWhatIsLeftToTheProgramIsNotWaitedFor)
+}
+
+func testWhatIsLeftToTheProgramIsNotWaitedFor(t *testing.T) {
 	work := shell(serve(t), "sleep 60 & trap 'exit 3' TERM; echo in; "+loop)
 	work.command.Path, work.command.Env = os.Args[0], append(work.command.Env, adoptVariable+"="+built)
 	work.start(t).tells(t, "in")
 	begun := time.Now()
 	work.signal(t, syscall.SIGTERM).endsWith(t, 3, "", "")
-	same(t, time.Since(begun) < 5*time.Second, true)
+	trial.Took(t, time.Since(begun), 0, 5*time.Second)
 }
 
 // terminal gives the two ends of a new one.

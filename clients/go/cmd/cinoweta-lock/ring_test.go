@@ -5,7 +5,6 @@ package main
 import (
 	"bufio"
 	"fmt"
-	"math/rand"
 	"net"
 	"net/http"
 	"net/http/httptest"
@@ -14,6 +13,8 @@ import (
 	"sync"
 	"testing"
 	"time"
+
+	"cinoweta/internal/trial"
 )
 
 // A ring is two nodes that know the same. Who stands for a term first leads in it, unless all are deposed.
@@ -36,14 +37,17 @@ func serve(t *testing.T) *ring {
 	t.Helper()
 	made := &ring{leaders: map[int]string{}, over: make(chan struct{})}
 	for range make([]struct{}, 100) {
-		made.first = 20_000 + rand.Intn(12_000)
-		one, fault := net.Listen("tcp", fmt.Sprint("127.0.0.1:", made.first))
-		if fault != nil {
-			continue
-		}
-		other, fault := net.Listen("tcp", fmt.Sprint("127.0.0.1:", made.first+1))
-		if fault != nil {
-			one.Close()
+		first, letGo := trial.HoldPorts(t, 2)
+		made.first = first
+		one, fault := net.Listen("tcp", fmt.Sprint("127.0.0.1:", first))
+		other, otherFault := net.Listen("tcp", fmt.Sprint("127.0.0.1:", first+1))
+		letGo()
+		if fault != nil || otherFault != nil {
+			for _, listener := range []net.Listener{one, other} {
+				if listener != nil {
+					listener.Close()
+				}
+			}
 			continue
 		}
 		made.listeners = []net.Listener{one, other}
@@ -178,7 +182,7 @@ func (r *ring) status(t *testing.T) string {
 // until waits until it is so.
 func until(t *testing.T, what string, isSo func() bool) {
 	t.Helper()
-	for late := time.Now().Add(20 * time.Second); !isSo(); time.Sleep(20 * time.Millisecond) {
+	for late := time.Now().Add(60 * time.Second); !isSo(); time.Sleep(20 * time.Millisecond) {
 		if time.Now().After(late) {
 			t.Fatal("it never came: " + what)
 		}

@@ -3,6 +3,7 @@ package trial
 
 import (
 	"fmt"
+	"syscall"
 	"testing"
 )
 
@@ -19,5 +20,14 @@ func Same(t *testing.T, came, wanted any) {
 	t.Helper()
 	if fmt.Sprintf("%+v", came) != fmt.Sprintf("%+v", wanted) {
 		t.Fatalf("came %+v, wanted %+v", came, wanted)
+	}
+}
+
+// NeedsDescriptors skips the test where so many descriptors can't be open.
+func NeedsDescriptors(t *testing.T, count uint64) {
+	t.Helper()
+	limit := syscall.Rlimit{}
+	if Must(t, syscall.Getrlimit(syscall.RLIMIT_NOFILE, &limit)); limit.Cur < count {
+		t.Skipf("for want of %d descriptors", count)
 	}
 }

@@ -4,7 +4,6 @@ import (
 	"bufio"
 	"errors"
 	"fmt"
-	"math/rand"
 	"os"
 	"os/exec"
 	"path/filepath"
@@ -47,7 +46,7 @@ type Ringd struct {
 func Serve(t *testing.T, host string, capacity int, words ...string) *Ringd {
 	t.Helper()
 	if fault := NoRingd(); fault != "" {
-		t.Skip(fault)
+		t.Skip("for want of ringd: " + fault)
 	}
 	folder := t.TempDir()
 	made := &Ringd{Dir: filepath.Join(folder, "ring"), Host: host, settings: filepath.Join(folder, "ring.toml"), capacity: capacity,
@@ -55,10 +54,13 @@ func Serve(t *testing.T, host string, capacity int, words ...string) *Ringd {
 	Must(t, os.Mkdir(made.Dir, 0o700))
 	t.Cleanup(made.Kill)
 	for range make([]struct{}, 20) {
-		made.First = 20_000 + rand.Intn(12_000)
-		if made.Start() == nil {
+		first, letGo := HoldPorts(t, 4)
+		if made.First = first; made.Start() == nil {
+			// Kept for it while it is away.
+			t.Cleanup(letGo)
 			return made
 		}
+		letGo()
 	}
 	t.Fatal("ringd does not serve")
 	return nil
