@@ -33,7 +33,7 @@ import promises as made
 from metrics import examples
 
 # What the language or its library names, or a line that a client sends, and no file of the repository.
-LANGUAGE = {*"Eq Ord PartialOrd Debug Display From Ok Err None Option Result Read Write BufRead Brand requires ensures bye CINOWETA_TERM".split()}
+LANGUAGE = {*"Eq Ord PartialOrd Debug Display From Ok Err None Option Result Read Write BufRead Brand requires ensures bye CINOWETA_TERM RINGD RINGCTL".split()}
 CLAUSE = re.compile(r"\s*(?:ensures|requires)\s+(\w+\s+)?\{")
 FUNCTION = re.compile(r"\s*(?:pub(?:\([^)]*\))?\s+)?(?:const\s+)?(?:unsafe\s+)?fn\s+(\w+)")
 MEMBER = re.compile(r"\s*ghost\s+(\w+)\s*[:=]")
