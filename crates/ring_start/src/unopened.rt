@@ -181,6 +181,13 @@ impl fmt::Display for Unopened {
     }
 }
 
+// As it is displayed: an error has to have one, and nothing prints it.
+impl fmt::Debug for Unopened {
+    fn fmt<W: fmt::Write>(&self, f: &mut fmt::Formatter<W>) -> fmt::Result {
+        write!(f, "{self}")
+    }
+}
+
 impl From<AllocError> for Unopened {
     fn from(_: AllocError) -> Unopened {
         Unopened::new(Refusal::OutOfMemory)
