@@ -30,7 +30,7 @@ pub const FILE_LIMIT: usize = (1 << 21) + (1 << 12);
 const PIECE: usize = 1 << 12;
 
 /// Why a file was not opened.
-#[derive(Clone, Copy, PartialEq, Eq)]
+#[derive(Clone, Copy, Debug, PartialEq, Eq)]
 pub enum OpenFault {
     /// The system refused it, as it does what is in use, or it is longer than `FILE_LIMIT`: so it answered.
     Device(SystemFault),
