@@ -25,6 +25,7 @@ from programs import HOST, PATIENCE, RINGCTL, RINGD, free_ports, require
 
 PRINTED = "  "
 NO_LINE = "no 25 line"
+NO_END = "does not end"
 # A start of a row, where somebody else took a port between the look at it and the start, is tried so often.
 STARTS = 3
 # The ports that rows name. Those of a row become as many that nobody uses.
@@ -112,7 +113,7 @@ class Run:
         except subprocess.TimeoutExpired:
             self.kill()
             self.patience.lose()
-            return "does not end"
+            return NO_END
         return f"ends {status}" if status >= 0 else f"ends by signal {-status}"
 
     def told(self, stream: int) -> str:
@@ -146,8 +147,11 @@ def prints_of_each(program: str, lines: list[str], patience: Patience) -> list[l
     """What each line of a script prints: where the script up to it, and with it, differ.
 
     In one run behind each line stands another one, which is no command: it changes nothing, and prints a line that shows where what
-    stands before it ends. Where the others print that line too, or do not print what they do alone, each front of the script is run."""
+    stands before it ends. Where the others print that line too, or do not print what they do alone, each front of the script is run.
+    One that does not end is run no more: all that it printed is told of the last line."""
     whole, rest = script_prints(program, lines, patience)
+    if NO_END in rest:
+        return [*([] for _ in lines[1:]), [*whole, *rest]]
     marked, marked_rest = script_prints(program, [it for line in lines for it in (line, "mark")], patience)
     if not rest and not marked_rest and marked.count(NO_LINE) == len(lines) and [it for it in marked if it != NO_LINE] == whole:
         parts: list[list[str]] = [[]]

@@ -236,7 +236,7 @@ class WhatDoesNotEnd(Player):
             """))
 
     def test_console(self) -> None:
-        self.hangs("console", "one\n  does not end\n")
+        self.hangs("console", "one\ntwo\n  does not end\n")
 
     def test_settings(self) -> None:
         self.hangs("settings", block("""

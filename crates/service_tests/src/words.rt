@@ -5,7 +5,10 @@ use std::test::*;
 
 /// Words, and what they ask: first what is known where they do not say it, then what they say.
 static ROWS: &[(&str, &str)] = &[
-    ("ringd", "settings - doors 1 idle 0 watchers 16 listen 127.0.0.1 leap 1000000"),
+    (
+        "ringd",
+        "settings - doors 1 idle 0 watchers 16 listen 127.0.0.1 leap 1000000",
+    ),
     (
         "ringd --serve 7 --settings=x",
         "settings x doors 1 idle 0 watchers 16 listen 127.0.0.1 leap 1000000 serve 7",
@@ -18,7 +21,10 @@ static ROWS: &[(&str, &str)] = &[
         "ringd --fail-stop --serve=1000",
         "settings - doors 1 idle 0 watchers 16 listen 127.0.0.1 leap 1000000 serve 1000 fail-stop",
     ),
-    ("ringd --make", "settings - doors 1 idle 0 watchers 16 listen 127.0.0.1 leap 1000000 make"),
+    (
+        "ringd --make",
+        "settings - doors 1 idle 0 watchers 16 listen 127.0.0.1 leap 1000000 make",
+    ),
     (
         "ringd --check --existing",
         "settings - doors 1 idle 0 watchers 16 listen 127.0.0.1 leap 1000000 check existing",
@@ -31,7 +37,10 @@ static ROWS: &[(&str, &str)] = &[
         "ringd --listen 0.0.0.0 --watchers=0",
         "settings - doors 1 idle 0 watchers 0 listen 0.0.0.0 leap 1000000",
     ),
-    ("ringd --leap=0", "settings - doors 1 idle 0 watchers 16 listen 127.0.0.1 leap 0"),
+    (
+        "ringd --leap=0",
+        "settings - doors 1 idle 0 watchers 16 listen 127.0.0.1 leap 0",
+    ),
     (
         "ringd --check --leaders --log=time",
         "settings - doors 1 idle 0 watchers 16 listen 127.0.0.1 leap 1000000 log time check leaders",
@@ -52,8 +61,14 @@ static ROWS: &[(&str, &str)] = &[
         "ringd --listen localhost",
         "settings - doors 1 idle 0 watchers 16 listen localhost leap 1000000",
     ),
-    ("ringd --listen=::1", "settings - doors 1 idle 0 watchers 16 listen ::1 leap 1000000"),
-    ("ringd --listen [::]", "settings - doors 1 idle 0 watchers 16 listen :: leap 1000000"),
+    (
+        "ringd --listen=::1",
+        "settings - doors 1 idle 0 watchers 16 listen ::1 leap 1000000",
+    ),
+    (
+        "ringd --listen [::]",
+        "settings - doors 1 idle 0 watchers 16 listen :: leap 1000000",
+    ),
 ];
 
 /// Adds a number, where it is said.

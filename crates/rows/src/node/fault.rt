@@ -1,37 +1,27 @@
 // Why a command is not followed.
 use ring_records::Refusal;
 use std::alloc::AllocError;
-use thiserror::Error;
 
-/// Why a command is not followed. Displayed as the line that tells it.
-#[derive(Clone, Copy, Debug, PartialEq, Eq, Error)]
+/// Why a command is not followed.
+#[derive(Clone, Copy)]
 pub enum Fault {
     /// The line has a fault, or what is called refuses.
-    #[error("{0}")]
     Refused(Refusal),
     /// No node stands here.
-    #[error("no node")]
     NoNode,
     /// No device stands here on its own.
-    #[error("no device")]
     NoDevice,
     /// The node has open tickets.
-    #[error("open tickets")]
     OpenTickets,
     /// No ticket of this number is open.
-    #[error("no ticket")]
     NoTicket,
     /// No ticket of this number was redeemed.
-    #[error("no stub")]
     NoStub,
     /// The node takes requests.
-    #[error("open")]
     Open,
     /// The row took 2,000 tickets.
-    #[error("too many tickets")]
     Tickets,
     /// A growth of the player was refused, which ends all rows.
-    #[error("out of memory")]
     Memory,
 }
 
@@ -47,10 +37,18 @@ impl From<Refusal> for Fault {
     }
 }
 
-/// Adds its line.
+/// Adds the line that tells it.
 pub fn tell(out: &mut String, fault: Fault) -> Result<(), AllocError> {
-    match fault {
-        Fault::Memory => Err(AllocError),
-        _ => writeln!(out, "{fault}"),
-    }
+    let text = match fault {
+        Fault::Refused(refusal) => return writeln!(out, "{refusal}"),
+        Fault::NoNode => "no node",
+        Fault::NoDevice => "no device",
+        Fault::OpenTickets => "open tickets",
+        Fault::NoTicket => "no ticket",
+        Fault::NoStub => "no stub",
+        Fault::Open => "open",
+        Fault::Tickets => "too many tickets",
+        Fault::Memory => return Err(AllocError),
+    };
+    writeln!(out, "{text}")
 }
