@@ -50,6 +50,11 @@ LINES, AGAIN = 200, 30
 TIME_OVER, INTERRUPTED = 124, 130
 
 
+def almost(seconds: float) -> float:
+    """When a process tells where it stands, before its time is over."""
+    return max(seconds - 10.0, seconds / 2)
+
+
 class Outcome(NamedTuple):
     """What came of a test: `passed`, `failed` or `skipped`, and why. `is_whole` where it is told of all tests of a file; a test is not
     begun where the process ended before."""
@@ -98,7 +103,7 @@ class PythonFile(Unit):
     """The tests of a file, by unittest."""
 
     def command(self, tests: list[str], results: str, seconds: float) -> list[str]:
-        return [sys.executable, str(HERE / "run_file.py"), *self.words, results, str(seconds), *tests]
+        return [sys.executable, str(HERE / "run_file.py"), *self.words, results, str(almost(seconds)), *tests]
 
     def outcomes(self, ended: Ended) -> list[Outcome]:
         lines = [json.loads(line) for line in ended.results.splitlines() if line.endswith("}")]
@@ -125,7 +130,7 @@ class GoPart(Unit):
 
     def command(self, tests: list[str], results: str, seconds: float) -> list[str]:
         wanted = f"^({'|'.join(tests or self.tests)})$"
-        return [*self.words, "-test.v", "-test.run", wanted, "-test.count", "1", "-test.timeout", f"{max(1.0, seconds - 2.0)}s"]
+        return [*self.words, "-test.v", "-test.run", wanted, "-test.count", "1", "-test.timeout", f"{almost(seconds)}s"]
 
     def outcomes(self, ended: Ended) -> list[Outcome]:
         found, place = [], 0

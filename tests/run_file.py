@@ -2,8 +2,8 @@
 """run_file.py FILE RESULTS SECONDS [TEST..]: runs the tests of a file, or these alone, and writes what came of each.
 
 RESULTS gets a JSON object a line: first the names of all tests that are run, then of each its begin, and its outcome with a text, and last
-an end, which is missing where the interpreter crashed. A second before these SECONDS are over each thread tells on standard error where it
-stands. The status is 0 once all were run, whatever came of them."""
+an end, which is missing where the interpreter crashed. After so many SECONDS each thread tells on standard error where it stands. The status
+is 0 once all were run, whatever came of them."""
 
 import faulthandler
 import importlib
@@ -86,7 +86,7 @@ class Results(unittest.TestResult):
 def main() -> int:
     path, results, seconds, wanted = pathlib.Path(sys.argv[1]).resolve(), sys.argv[2], float(sys.argv[3]), {*sys.argv[4:]}
     faulthandler.enable()
-    faulthandler.dump_traceback_later(max(0.1, seconds - 1.0))
+    faulthandler.dump_traceback_later(seconds)
     folder, name = module_name(path)
     # As where the file is run by itself: its folder comes first.
     sys.path[0], sys.argv = str(folder), [str(path)]

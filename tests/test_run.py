@@ -111,7 +111,7 @@ class RunTest(unittest.TestCase):
 
     def test_what_hangs_is_ended_with_all_that_it_started(self) -> None:
         self.write("one", "pass", "child(); time.sleep(1000)", "pass", head=CHILD)
-        told = self.told("--seconds", "4", status=1)
+        told = self.told("--seconds", "8", status=1)
         self.assertIn("its time was over while it ran", told)
         # Where it stands.
         self.assertIn("in test_b", told)

@@ -125,7 +125,7 @@ type program struct {
 // start starts a program, which is killed at the end of the test.
 func start(t *testing.T, command *exec.Cmd, names ...string) *program {
 	t.Helper()
-	command.Env = append(os.Environ(), names...)
+	command.Env = trial.Marked(t, append(os.Environ(), names...))
 	reader, writer, err := os.Pipe()
 	must(t, err)
 	command.Stdout, command.Stderr = writer, writer

@@ -252,13 +252,13 @@ class CampaignTest(Beside):
         for answers, is_known in ((("no 3 already 10",), True), (("no 4 late",), False), (("stood",), False),
                                   (("no 3 already 11",), False), ((None,) * 9, None)):
             lines["latest red"] = "none"
-            ring, nodes = self.ring(node, first(*answers), timeout=0.2)
+            ring, nodes = self.ring(node, first(*answers), timeout=2.0)
             if is_known:
-                self.assertEqual(ring.campaign_with(10, "red", node=1, seconds=0.1), Election(1, Leader(2, 10), False))
+                self.assertEqual(ring.campaign_with(10, "red", node=1, seconds=1.0), Election(1, Leader(2, 10), False))
             else:
                 # A node that does not answer may know it.
                 with self.assertRaises(NoAnswer if is_known is None else WrongRing):
-                    ring.campaign_with(10, "red", node=1, seconds=0.1)
+                    ring.campaign_with(10, "red", node=1, seconds=1.0)
             self.assertEqual(({*nodes[1].lines}, ring.unanswered), ({"stand red 1 10"}, {}))
         # Nor of a ring that has no such node.
         lines["latest red"] = "none"

@@ -209,13 +209,15 @@ class LockerTest(ServedTest):
                 locker.send_signal(signal.SIGCONT)
                 locker.kill()
             locker.wait()
+            locker.stdin.close()
             locker.stdout.close()
 
     def lock(self, script: str, *words: str) -> subprocess.Popen[str]:
         """Starts a locker of a shell's script, what is told of whom it waits for among what it prints."""
         command = self.served.command("lock", "red", "--patience", "1", "--grace", "1", *words, "--", "sh", "-c", script)
         errors = subprocess.STDOUT if "--timeout" in words else subprocess.DEVNULL
-        locker = subprocess.Popen(command, cwd=HERE.parent, stdout=subprocess.PIPE, stderr=errors, text=True)
+        # A command that reads from here ends with the test.
+        locker = subprocess.Popen(command, cwd=HERE.parent, stdin=subprocess.PIPE, stdout=subprocess.PIPE, stderr=errors, text=True)
         self.lockers.append(locker)
         return locker
 
@@ -235,9 +237,9 @@ class LockTest(LockerTest):
         self.assertEqual((len(terms), terms), (4, sorted(set(terms))))
 
     def test_who_is_paused_loses_the_lock(self) -> None:
-        first = self.lock("echo $CINOWETA_TERM; exec sleep 60")
+        first = self.lock("echo $CINOWETA_TERM; exec cat")
         self.assertEqual(first.stdout.readline(), "1\n")
-        second = self.lock("echo $CINOWETA_TERM; exec sleep 60")
+        second = self.lock("echo $CINOWETA_TERM; exec cat")
         time.sleep(1.5)
         self.assertIsNone(second.poll())
         first.send_signal(signal.SIGSTOP)
@@ -257,7 +259,7 @@ class LockTest(LockerTest):
             os.kill(command, 0)
 
     def test_who_is_killed_loses_it_at_once(self) -> None:
-        first = self.lock("echo $$; exec sleep 60")
+        first = self.lock("echo $$; exec cat")
         command = int(first.stdout.readline())
         first.kill()
         self.assertEqual(self.lock("echo $CINOWETA_TERM", "--patience", "60").stdout.readline(), "2\n")
@@ -277,7 +279,7 @@ class LockTest(LockerTest):
         self.served.start()
 
     def test_who_waits_waits_for_a_ring_that_is_down(self) -> None:
-        first = self.lock("echo $CINOWETA_TERM; exec sleep 60")
+        first = self.lock("echo $CINOWETA_TERM; exec cat")
         self.assertEqual(first.stdout.readline(), "1\n")
         second = self.lock("echo $CINOWETA_TERM", "--timeout", "0.5")
         self.assertIn("waits for process", second.stdout.readline())
@@ -293,7 +295,7 @@ class LockTest(LockerTest):
     def test_the_holder_is_told(self) -> None:
         told = self.served.run("holder", "red")
         self.assertEqual((told.returncode, told.stdout), (1, "none\n"))
-        first = self.lock("echo in; exec sleep 60", "--text", "the nightly job")
+        first = self.lock("echo in; exec cat", "--text", "the nightly job")
         self.assertEqual(first.stdout.readline(), "in\n")
         told = self.served.run("holder", "red")
         self.assertRegex(told.stdout, rf"\Aterm 1 leader \d \d+ process {first.pid} the nightly job\n\Z")
@@ -330,7 +332,7 @@ class AcrossHostsTest(LockerTest):
         self.assertEqual((len(terms), terms), (3, sorted(set(terms))))
 
     def test_who_is_killed_or_paused_loses_it(self) -> None:
-        script = "echo $CINOWETA_TERM; exec sleep 60"
+        script = "echo $CINOWETA_TERM; exec cat"
         first = self.lock(script, *self.words)
         self.assertEqual(first.stdout.readline(), "1\n")
         self.assertRegex(self.run_holder(), r"\Aterm 1 leader \d \d+\n\Z")
@@ -351,7 +353,7 @@ class AcrossHostsTest(LockerTest):
         self.until(lambda: self.run_holder() == "none\n", "held")
 
     def test_it_outlives_a_start_of_the_ring(self) -> None:
-        first = self.lock("echo in; exec sleep 60", *self.words)
+        first = self.lock("echo in; exec cat", *self.words)
         self.assertEqual(first.stdout.readline(), "in\n")
         second = self.lock("echo in", "--timeout", "0.5", *self.words)
         self.assertIn("waits for node", second.stdout.readline())

@@ -62,13 +62,16 @@ class ShownTest(unittest.TestCase):
 
     def test_who_is_killed_is_not_present(self) -> None:
         served = self.start("--doors", "4")
-        words = served.command("lock", "--text", "a worker", "--status", str(served.status), "jobs", "--", "sleep", "60")
-        # In a group of its own, so that its command ends too.
-        first = subprocess.Popen(words, cwd=HERE.parent, start_new_session=True)
+        words = served.command("lock", "--text", "a worker", "--status", str(served.status), "jobs", "--", "cat")
+        # Its command reads from here, and so ends with this test.
+        first = subprocess.Popen(words, cwd=HERE.parent, stdin=subprocess.PIPE)
+        self.addCleanup(first.wait)
+        self.addCleanup(first.kill)
+        self.addCleanup(first.stdin.close)
         self.until(served, 1, True, False, "a worker")
         out = json.loads(served.run("--json", "holder", "jobs").stdout)
         self.assertEqual((out["term"], out["pid"], out["text"]), (1, first.pid, "a worker"))
-        os.killpg(first.pid, signal.SIGKILL)
+        first.kill()
         first.wait()
         self.until(served, 1, False, False, "")
         with self.lock(served, text="another"):

@@ -96,6 +96,7 @@ func (p *program) start(t *testing.T) *program {
 	must(t, err)
 	faults, err := os.CreateTemp(t.TempDir(), "")
 	must(t, err)
+	p.command.Env = trial.Marked(t, p.command.Env)
 	p.command.Stdout, p.command.Stderr = writer, faults
 	p.out, p.standardError = bufio.NewReader(reader), faults.Name()
 	must(t, p.command.Start())
@@ -138,7 +139,7 @@ func (p *program) signal(t *testing.T, number syscall.Signal) *program {
 // told.
 func (p *program) ends(t *testing.T) (status int, out, faults string) {
 	t.Helper()
-	late := time.AfterFunc(20*time.Second, func() { p.command.Process.Kill() })
+	late := time.AfterFunc(60*time.Second, func() { p.command.Process.Kill() })
 	defer late.Stop()
 	told, err := io.ReadAll(p.out)
 	must(t, err)
