@@ -9,7 +9,7 @@ The programs under test are those of RINGD and RINGCTL, or what the gate has lin
 and bin/ringctl. All of them are needed where no PATH is given, and one of them else.
 
   --jobs N     so many processes at once: as many as there are processors and four by default, as most tests wait.
-  --seconds S  after which a process and all that it started are ended, and it counts as failed, 300 by default.
+  --seconds S  after which a process and all that it started are ended, and it counts as failed, 600 by default.
 
 A test that fails is run once more, alone, after the others: where it passes then it counts as passed, and is named as unsteady. A test that is
 skipped counts as not run, and its reason is told; `for want of` and names in it are gathered, with those of tools that are not there, in the
@@ -422,7 +422,7 @@ def interrupted(number: int, _frame: object) -> None:
 def main() -> int:
     parser = argparse.ArgumentParser(usage=(__doc__ or "").split("\n\n", maxsplit=1)[0])
     parser.add_argument("--jobs", type=int, default=(os.cpu_count() or 1) + 4, metavar="N")
-    parser.add_argument("--seconds", type=float, default=300.0, metavar="S")
+    parser.add_argument("--seconds", type=float, default=600.0, metavar="S")
     parser.add_argument("paths", nargs="*", metavar="PATH")
     words = parser.parse_args()
     for number in (signal.SIGTERM, signal.SIGHUP):
