@@ -181,10 +181,14 @@ class Ring:
         """Whether the program ended."""
         return self.process is None or self.process.poll() is not None
 
+    def hold_ports(self) -> None:
+        """Draws its ports, where it has none yet."""
+        self.ports = self.ports or Ports(self.nodes + self.has_status)
+
     def start(self) -> None:
         """Starts it, at ports that nobody uses, and waits until it serves or ends. Raises where it serves in no case."""
         for _ in range(20):
-            self.ports = self.ports or Ports(self.nodes + self.has_status)
+            self.hold_ports()
             self.spawn()
             at_last(lambda: "serving\n" in self.told("out") or self.is_over())
             if not (self.is_over() and "cannot be used" in self.told()):

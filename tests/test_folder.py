@@ -54,7 +54,7 @@ class FolderTest(RefusedTest):
     def folder(self) -> Iterator[tuple[Ring, Refuser]]:
         """An empty folder of a ring of two that nobody serves."""
         ring = Ring(nodes=NODES, capacity=4_096)
-        ring.port = 7_000
+        ring.hold_ports()
         try:
             yield ring, self.refuser()
         finally:

@@ -89,7 +89,7 @@ class PrefixTest(RingTest):
 
     def test_lines_with_their_times(self) -> None:
         ring = Ring(nodes=2, capacity=4_096)
-        ring.port = 7_000
+        ring.hold_ports()
         try:
             version, identity = self.make(ring, 0)
             self.assertRegex(version, rf"^{TIME} notice ringd: version 0\.1\.0, layout 3$")

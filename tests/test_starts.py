@@ -7,7 +7,7 @@ import subprocess
 import unittest
 
 import journals
-from programs import PATIENCE, RefusedTest, Ring, RingTest, free_ports
+from programs import PATIENCE, RefusedTest, Ring, RingTest
 from refuser import Refusal
 
 FULL = "ringd: node 1 holds what an earlier start wrote\nringd: node 1 full\n"
@@ -70,11 +70,8 @@ class StartsTest(RingTest):
         """What it made is gone."""
         ring = Ring()
         self.addCleanup(ring.remove)
-        for _ in range(20):
-            ring.port = free_ports(3)
-            told = self.untold(ring)
-            if "cannot be used" not in told:
-                break
+        ring.hold_ports()
+        told = self.untold(ring)
         self.assertEqual(("ringd: output cannot be written\n", []), (told, os.listdir(ring.dir)))
 
 
