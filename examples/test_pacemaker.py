@@ -38,7 +38,7 @@ def actions(told: str) -> list[str]:
     return [" ".join(re.sub(r"^ *\* (Resource action: )?", "", line).split()) for line in section.splitlines()[1:] if line]
 
 
-@unittest.skipUnless(is_there(), "for want of pcs, its agents")
+@unittest.skipUnless(is_there(), "for want of pcs with its agents")
 class PacemakerTest(unittest.TestCase):
     def setUp(self) -> None:
         folder = tempfile.TemporaryDirectory(prefix="cinoweta-")

@@ -23,12 +23,12 @@ setUpModule = require
 
 def ask(port: int, line: str) -> str:
     """The answer to a line, or "" where the session ends without one."""
-    with socket.create_connection(("127.0.0.1", port), PATIENCE) as connection:
-        connection.sendall(line.encode() + b"\n")
-        try:
+    try:
+        with socket.create_connection(("127.0.0.1", port), PATIENCE) as connection:
+            connection.sendall(line.encode() + b"\n")
             return connection.makefile().readline()
-        except OSError:
-            return ""
+    except ConnectionError:
+        return ""
 
 
 class SignalTest(unittest.TestCase):

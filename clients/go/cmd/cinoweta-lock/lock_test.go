@@ -121,12 +121,11 @@ func testACommandIsEndedOnceTheLockIsLost(t *testing.T) {
 	ring.change(func() { ring.leaders[9] = "2 5" })
 	work.endsWith(t, 5, "", "cinoweta: jobs: term 1 is over: a greater term is known: 9\n")
 	work = lock(ring, append([]string{"--grace", "0.5", "jobs", "--"}, ignores...)...).start(t).tells(t, "in")
+	begun := time.Now()
 	ring.change(func() { ring.leaders[19] = "2 5" })
 	work.tells(t, "TERM")
-	begun := time.Now()
 	work.endsWith(t, 5, "", "cinoweta: jobs: term 10 is over: a greater term is known: 19\n")
-	took := time.Since(begun)
-	trial.Took(t, took, 400*time.Millisecond, 2*time.Second)
+	trial.Took(t, time.Since(begun), 500*time.Millisecond, 4*time.Second)
 }
 
 func TestACommandIsEndedOnceNoNodeAnswers(t *testing.T) {
