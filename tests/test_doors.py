@@ -83,17 +83,22 @@ class DoorsTest(LateTest):
                 self.each(one, ("latest red", "none"), ("bye", "bye"))
             self.finish_all(ring, 60)
 
+    def is_left_dripping(self, ring: Ring) -> None:
+        with ring.client() as client:
+            self.each(client, ("bye", "bye"))
+            begun = time.monotonic()
+            with self.assertRaises(ConnectionError):
+                for _ in range(30_000):
+                    client.stream.sendall(b"a")
+                    time.sleep(0.0001)
+            if time.monotonic() - begun > 2.0:
+                raise Late
+
     def test_clients_that_drip_behind_their_session(self) -> None:
         """What a client still sends is read for a second and up to 65,536 bytes, and not as long as it comes."""
-        with self.serves("--serve", "3", nodes=2) as ring:
-            for _ in range(3):
-                with ring.client() as client:
-                    self.each(client, ("bye", "bye"))
-                    with self.assertRaises(ConnectionError):
-                        for _ in range(30_000):
-                            client.stream.sendall(b"a")
-                            time.sleep(0.0001)
-            self.finish(ring, 2, 3)
+        with self.serves("--serve", "20", nodes=2, has_status=True) as ring:
+            self.visit(lambda: self.is_left_dripping(ring))
+            self.finish_all(ring, 20)
 
     def is_left_refused(self, ring: Ring, node: int) -> None:
         """A client that sends an empty line every 0.4 seconds, which is refused, is left as one that is silent."""
