@@ -10,7 +10,7 @@ import journals
 from programs import PATIENCE, RefusedTest, Ring, RingTest
 from refuser import Refusal
 
-FULL = "ringd: node 1 holds what an earlier start wrote\nringd: node 1 full\n"
+HELD = "ringd: node 1 holds what an earlier start wrote\n"
 CAPACITY = 4_096
 
 
@@ -45,7 +45,7 @@ class StartsTest(RingTest):
 
     def test_a_node_whose_snapshot_does_not_fit(self) -> None:
         """152 Stands that nobody heard of take 3,040 bytes, and their snapshot 4,142. So no Stand has room, not even one that was made."""
-        with self.serves("--serve", "1", nodes=2, capacity=CAPACITY, err=FULL) as ring:
+        with self.serves("--serve", "1", nodes=2, capacity=CAPACITY, err=None) as ring:
             ring.kill()
             for name in os.listdir(ring.dir):
                 os.remove(os.path.join(ring.dir, name))
@@ -53,6 +53,8 @@ class StartsTest(RingTest):
             ring.start()
             self.assertEqual("no 7 full", ring.asks(1, "stand red 152 10"))
             self.assertEqual("none", ring.asks(2, "who red 1000"))
+            # Behind it stands which node is full, and well again, as messages come.
+            self.assertTrue(ring.told().startswith(HELD), ring.told())
 
     def untold(self, ring: Ring) -> str:
         """What a start tells on standard error whose standard output takes all but the line `serving`."""
