@@ -1,4 +1,3 @@
-#!/usr/bin/env python3
 """A node whose disk failed: what its clients, those of the other nodes, operators and standard error are told."""
 import concurrent.futures
 import errno

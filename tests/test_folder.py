@@ -1,4 +1,3 @@
-#!/usr/bin/env python3
 """In which order `ringd --make` makes the files of a ring, what it takes back where a call is refused, and what it tells."""
 import contextlib
 import errno

@@ -1,4 +1,3 @@
-#!/usr/bin/env python3
 """Tests of run.py, over small folders of tests: what fails, hangs, crashes or is skipped, and what is left behind."""
 import os
 import pathlib
@@ -9,6 +8,8 @@ import sys
 import tempfile
 import time
 import unittest
+
+from processes import is_there
 
 HERE = pathlib.Path(__file__).resolve().parent
 PATIENCE = 120.0
@@ -28,14 +29,6 @@ func TestPasses(t *testing.T) {}
 func TestFails(t *testing.T) { t.Fatal("it fails") }
 func TestSkips(t *testing.T) { t.Skip("for want of a moon") }
 """
-
-
-def is_there(number: int) -> bool:
-    """Whether such a process runs."""
-    try:
-        return pathlib.Path(f"/proc/{number}/stat").read_text("utf-8").rpartition(")")[2].split()[0] not in "ZX"
-    except FileNotFoundError:
-        return False
 
 
 class RunTest(unittest.TestCase):

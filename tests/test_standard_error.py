@@ -1,4 +1,3 @@
-#!/usr/bin/env python3
 """What `ringd` tells on standard error of all that happens, of a node at its limit, and what stands before each line."""
 import os
 import pathlib

@@ -1,4 +1,3 @@
-#!/usr/bin/env python3
 """How much `ringd` reads of settings, and what it tells where its output takes nothing."""
 import os
 import pathlib

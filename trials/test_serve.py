@@ -10,6 +10,8 @@ import unittest
 from collections.abc import Callable
 
 from short import free_ports
+# Of tests/, which short.py has Python look in.
+from processes import is_there
 
 ROOT = pathlib.Path(__file__).resolve().parent.parent
 # It runs what stands for ringd below a program in a session of its own, as rt does, and tells its number.
@@ -18,14 +20,6 @@ setsid bash -c 'sleep 1000 & echo $! > "$0.new"; mv "$0.new" "$0"; wait' "$SERVE
 wait
 """
 PATIENCE = 20.0
-
-
-def is_there(pid: int) -> bool:
-    """Whether such a process runs."""
-    try:
-        return pathlib.Path(f"/proc/{pid}/stat").read_text("utf-8").rpartition(")")[2].split()[0] != "Z"
-    except FileNotFoundError:
-        return False
 
 
 class ServeTest(unittest.TestCase):
